@@ -1,0 +1,160 @@
+-- The laws of the numbers below a bound: every, some, those and run, each by induction on the bound.
+-- Assumes nothing.
+use mathlib.Core.Path.{_≡_, refl, sym, ap, ap₂, _∙_, subst, subst⁻¹}
+use mathlib.Core.Logic.{_⊎_, inl, inr, ⊎-elim}
+use mathlib.Core.Bool.{Bool, true, false, cond, not, _&&_, _||_}
+use mathlib.Core.List.{List, [], _∷_, _++_, append-nil, append-assoc}
+use Prim.Native.Nat.{ℕ, zero, suc, _+_, _<_, _≤_}
+use native.Mathlib.Nat.{not-suc-le-zero, le-of-suc-le-suc, eq-or-lt-of-le, lt-suc-self, add-zero, zero-add, add-suc, suc-add}
+use native.Mathlib.Omega.{arith}
+use lib.Dec.{T, eqb, eqb→eq, eqb-refl}
+use lib.ListN.{length, length-append, getD}
+use Rattle.cube.specs.Below.{flag, every, some, those, run}
+use Rattle.cube.proofs.Bools.{and-l, and-r, and-i, or-e, or-l, or-r, not-e, not-i, same, is-true, is-false, lt-or-le, eq-or-ne}
+
+-- ---- every and some
+
+pub every-at : (m : ℕ) (f : ℕ → Bool) → T (every m f) → (k : ℕ) → k < m → T (f k)
+unfolding every
+every-at zero f h k l = absurd (not-suc-le-zero l)
+every-at (suc m) f h k l =
+    ⊎-elim (λ e. subst⁻¹ (λ (i : ℕ). T (f i)) e (and-l (f m) (every m f) h))
+    (λ l′. every-at m f (and-r (f m) (every m f) h) k l′) (eq-or-lt-of-le (le-of-suc-le-suc l))
+
+pub every-by : (m : ℕ) (f : ℕ → Bool) → ((k : ℕ) → k < m → T (f k)) → T (every m f)
+unfolding every
+every-by zero f h = tt
+every-by (suc m) f h = and-i (f m) (every m f) (h m (lt-suc-self m)) (every-by m f (λ k l. h k (omega arith)))
+
+pub every-same : (m : ℕ) (f g : ℕ → Bool) → ((k : ℕ) → k < m → f k ≡ g k) → every m f ≡ every m g
+unfolding every
+every-same zero f g e = refl
+every-same (suc m) f g e = ap₂ _&&_ (e m (lt-suc-self m)) (every-same m f g (λ k l. e k (omega arith)))
+
+pub some-at : (m : ℕ) (f : ℕ → Bool) → T (some m f) → (k : ℕ) × (k < m) × T (f k)
+unfolding some
+some-at zero f h = absurd h
+some-at (suc m) f h =
+    ⊎-elim (λ x. (m, lt-suc-self m, x)) (λ x. let r = some-at m f x in (r .0, omega arith, r .2)) (or-e (f m) (some m f) h)
+
+pub some-by : (m : ℕ) (f : ℕ → Bool) (k : ℕ) → k < m → T (f k) → T (some m f)
+unfolding some
+some-by zero f k l h = absurd (not-suc-le-zero l)
+some-by (suc m) f k l h =
+    ⊎-elim (λ e. or-l (f m) (some m f) (subst (λ (i : ℕ). T (f i)) e h)) (λ l′. or-r (f m) (some m f) (some-by m f k l′ h))
+    (eq-or-lt-of-le (le-of-suc-le-suc l))
+
+pub none-at : (m : ℕ) (f : ℕ → Bool) → T (not (some m f)) → (k : ℕ) → k < m → T (f k) → ⊥
+none-at m f h k l x = not-e (some m f) h (some-by m f k l x)
+
+pub none-by : (m : ℕ) (f : ℕ → Bool) → ((k : ℕ) → k < m → T (f k) → ⊥) → T (not (some m f))
+none-by m f h = not-i (some m f) (λ s. let r = some-at m f s in h (r .0) (r .1) (r .2))
+
+-- ---- those that pass
+
+pub those-same : (m : ℕ) (f g : ℕ → Bool) → ((c : ℕ) → c < m → f c ≡ g c) → those m f ≡ those m g
+unfolding those
+those-same zero f g e = refl
+those-same (suc m) f g e =
+    ap₂ (λ (l : List ℕ) (b : Bool). l ++ cond b (m ∷ []) []) (those-same m f g (λ c l. e c (omega arith))) (e m (lt-suc-self m))
+
+pub those-none : (m : ℕ) (f : ℕ → Bool) → ((c : ℕ) → c < m → T (f c) → ⊥) → those m f ≡ []
+unfolding those
+those-none zero f e = refl
+those-none (suc m) f e =
+    ap₂ (λ (l : List ℕ) (b : Bool). l ++ cond b (m ∷ []) []) (those-none m f (λ c l. e c (omega arith))) (is-false (f m) (e m (lt-suc-self m)))
+
+-- v alone passes
+pub those-one : (m : ℕ) (f : ℕ → Bool) (v : ℕ) → v < m → T (f v) → ((c : ℕ) → c < m → T (f c) → c ≡ v) → those m f ≡ v ∷ []
+unfolding those
+those-one zero f v l h e = absurd (not-suc-le-zero l)
+those-one (suc m) f v l h e =
+    ⊎-elim here (λ x. there x (those-one m f v x h (λ c k. e c (omega arith)))) (eq-or-lt-of-le (le-of-suc-le-suc l))
+  where
+    joined : {l l′ : List ℕ} {b b′ : Bool} → l ≡ l′ → b ≡ b′ → l ++ cond b (m ∷ []) [] ≡ l′ ++ cond b′ (m ∷ []) []
+    joined p q = ap₂ (λ (l : List ℕ) (b : Bool). l ++ cond b (m ∷ []) []) p q
+
+    here : v ≡ m → those m f ++ cond (f m) (m ∷ []) [] ≡ v ∷ []
+    here x =
+        joined (those-none m f (λ c k y. let z : c ≡ v = e c (omega arith) y in omega arith)) (is-true (f m) (subst (λ (i : ℕ). T (f i)) x h))
+        ∙ ap (λ (i : ℕ). i ∷ []) (sym x)
+
+    there : v < m → those m f ≡ v ∷ [] → those m f ++ cond (f m) (m ∷ []) [] ≡ v ∷ []
+    there x ih = joined ih (is-false (f m) (λ y. let z : m ≡ v = e m (lt-suc-self m) y in omega arith))
+
+-- f is g below s and h from s on
+module _ (f g h : ℕ → Bool) (s : ℕ) where
+  pub record Parts (m : ℕ) : Type 0 where
+    pub either : (c : ℕ) → c < m → T (f c) → T (g c) ⊎ T (h c)
+    pub first : (c : ℕ) → c < m → T (g c) → T (f c) × (c < s)
+    pub second : (c : ℕ) → c < m → T (h c) → T (f c) × (s ≤ c)
+
+  fewer : (m : ℕ) → Parts (suc m) → Parts m
+  fewer m p = record {
+    either = λ c l. p .either c (omega arith);
+    first = λ c l. p .first c (omega arith);
+    second = λ c l. p .second c (omega arith);
+  }
+
+  split-step : (m : ℕ) → Parts (suc m) → those m f ≡ those m g ++ those m h → those (suc m) f ≡ those (suc m) g ++ those (suc m) h
+  unfolding those
+  split-step m p ih = ⊎-elim high low (lt-or-le m s)
+    where
+      low : s ≤ m → those m f ++ cond (f m) (m ∷ []) [] ≡ (those m g ++ cond (g m) (m ∷ []) []) ++ (those m h ++ cond (h m) (m ∷ []) [])
+      low x =
+          let no : T (g m) → ⊥ = λ y. let z : m < s = p .first m (lt-suc-self m) y .1 in omega arith in
+          let e : f m ≡ h m = same (f m) (h m) (λ y. ⊎-elim (λ w. absurd (no w)) (λ w. w) (p .either m (lt-suc-self m) y)) (λ y. p .second m (lt-suc-self m) y .0) in
+          let d : g m ≡ false = is-false (g m) no in
+          rw (ih, e, d, append-nil) (append-assoc (those m g) (those m h) (cond (h m) (m ∷ []) []))
+
+      high : m < s → those (suc m) f ≡ those (suc m) g ++ those (suc m) h
+      high x =
+          let no : (c : ℕ) → c < suc m → T (h c) → ⊥ = λ c l y. let z : s ≤ c = p .second c l y .1 in omega arith in
+          those-same (suc m) f g (λ c l. same (f c) (g c) (λ y. ⊎-elim (λ w. w) (λ w. absurd (no c l w)) (p .either c l y)) (λ y. p .first c l y .0))
+          ∙ sym (append-nil (those (suc m) g)) ∙ ap (λ (l : List ℕ). those (suc m) g ++ l) (sym (those-none (suc m) h no))
+
+  pub those-split : (m : ℕ) → Parts m → those m f ≡ those m g ++ those m h
+  unfolding those
+  those-split zero p = refl
+  those-split (suc m) p = split-step m p (those-split m (fewer m p))
+
+-- ---- how many pass
+
+module _ (f : ℕ → Bool) where
+  pub count-suc : (m : ℕ) → length (those (suc m) f) ≡ length (those m f) + flag (f m)
+  unfolding those
+  count-suc m = length-append (those m f) (cond (f m) (m ∷ []) []) ∙ ap (λ (i : ℕ). length (those m f) + i) (one (f m))
+    where
+      one : (b : Bool) → length (cond b (m ∷ []) []) ≡ flag b
+      one true = refl
+      one false = refl
+
+  pub count-none : length (those zero f) ≡ 0
+  unfolding those
+  count-none = refl
+
+  pub those-length : (m : ℕ) → length (those m f) ≤ m
+  those-length zero = omega (arith, count-none)
+  those-length (suc m) = omega (arith, count-suc m, those-length m, flag-le (f m))
+    where
+      flag-le : (b : Bool) → flag b ≤ 1
+      flag-le true = omega arith
+      flag-le false = omega arith
+
+  pub count-more : (a m : ℕ) → a ≤ m → length (those a f) ≤ length (those m f)
+  count-more a zero l = let e : a ≡ 0 = omega arith in subst⁻¹ (λ (i : ℕ). length (those i f) ≤ length (those zero f)) e (omega arith)
+  count-more a (suc m) l =
+      ⊎-elim (λ e. subst⁻¹ (λ (i : ℕ). length (those i f) ≤ length (those (suc m) f)) e (omega arith))
+      (λ k. omega (arith, count-suc m, count-more a m (le-of-suc-le-suc k))) (eq-or-lt-of-le l)
+
+-- ---- a function's values
+
+run-from : (f : ℕ → ℕ) (m i k : ℕ) → k < m → getD (run m i f) k 0 ≡ f (i + k)
+unfolding run
+run-from f zero i k h = absurd (not-suc-le-zero h)
+run-from f (suc m) i zero h = ap f (sym (add-zero i))
+run-from f (suc m) i (suc k) h = run-from f m (suc i) k (le-of-suc-le-suc h) ∙ ap f (suc-add i k ∙ sym (add-suc i k))
+
+-- A constant table that is the run of a definition: the checker computes the run and compares it with the table once, and this is the rule at each entry.
+pub run-at : (f : ℕ → ℕ) (m k : ℕ) → k < m → getD (run m 0 f) k 0 ≡ f k
+run-at f m k h = run-from f m 0 k h ∙ ap f (zero-add k)

@@ -1,0 +1,74 @@
+-- Writing into a lent list from the front: runs of stores join, a pass that stores each number that passes a test, and a pass that fills a list
+-- with a function's values. Assumes nothing.
+use mathlib.Core.Path.{_≡_, refl, sym, ap, ap₂, _∙_, subst₂}
+use mathlib.Core.Bool.{Bool, true, false, cond}
+use mathlib.Core.List.{List, [], _∷_, _++_, append-nil}
+use Prim.Native.Nat.{ℕ, suc, _+_, _<_, _≤_}
+use native.Mathlib.Nat.{zero-add, add-zero, add-suc, suc-add}
+use native.Mathlib.Numerals.{add-one}
+use native.Mathlib.Omega.{arith}
+use lib.ListN.{length, length-append, set, drop, getD}
+use lib.Seq.{sets, length-sets, sets-eq, getD-set-same, getD-set-other}
+use borrow.Author.Count.{below-more}
+use Rattle.cube.specs.Below.{those}
+use Rattle.cube.proofs.Below.{those-length}
+
+-- a run of stores and the run right behind it
+pub sets-append : (l : List ℕ) (i : ℕ) (xs ys : List ℕ) → sets (sets l i xs) (i + length xs) ys ≡ sets l i (xs ++ ys)
+sets-append l i [] ys = ap (λ (k : ℕ). sets l k ys) (add-zero i)
+sets-append l i (x ∷ xs) ys =
+    ap (λ (k : ℕ). sets (sets (set l i x) (suc i) xs) k ys) (add-suc i (length xs) ∙ sym (suc-add i (length xs))) ∙ sets-append (set l i x) (suc i) xs ys
+
+-- a run of stores from the front: the list stands there, and behind it what was
+pub sets-front : (xs old : List ℕ) → length xs ≤ length old → sets old 0 xs ≡ xs ++ drop (length xs) old
+sets-front xs old h = sets-eq xs old 0 (omega arith) ∙ ap (λ (i : ℕ). xs ++ drop i old) (zero-add (length xs))
+
+-- ---- the numbers that pass, stored one by one
+
+-- after the numbers below m: those that pass are stored from the front, and there are count of them
+pub record Collected (f : ℕ → Bool) (old new : List ℕ) (m count : ℕ) : Type 0 where
+  pub counts : count ≡ length (those m f)
+  pub holds : new ≡ sets old 0 (those m f)
+
+those-more : (m : ℕ) (f : ℕ → Bool) (b : Bool) → f m ≡ b → those (m + 1) f ≡ those m f ++ cond b (m ∷ []) []
+unfolding those
+those-more m f b e = ap (λ (k : ℕ). those k f) (add-one m) ∙ ap (λ (x : Bool). those m f ++ cond x (m ∷ []) []) e
+
+module _ (f : ℕ → Bool) (old : List ℕ) where
+  pub collect-none : Collected f old old 0 0
+  unfolding those
+  collect-none = record { counts = refl; holds = refl }
+
+  module _ (new : List ℕ) (m count : ℕ) (h : Collected f old new m count) where
+    pub collect-le : count ≤ m
+    collect-le = omega (arith, those-length f m, h .counts)
+
+    pub collect-long : length new ≡ length old
+    collect-long = ap length (h .holds) ∙ length-sets old 0 (those m f)
+
+    stored : f m ≡ true → Collected f old (set new count m) (m + 1) (count + 1)
+    stored e = record {
+      counts = omega (arith, h .counts, ap length (those-more m f true e), length-append (those m f) (m ∷ []));
+      holds =
+          ap₂ (λ (l : List ℕ) (k : ℕ). set l k m) (h .holds) (h .counts ∙ sym (zero-add (length (those m f))))
+          ∙ sets-append old 0 (those m f) (m ∷ []) ∙ ap (sets old 0) (sym (those-more m f true e));
+    }
+
+    passed-over : f m ≡ false → Collected f old new (m + 1) count
+    passed-over e =
+        let g : those (m + 1) f ≡ those m f = those-more m f false e ∙ append-nil (those m f) in
+        record { counts = h .counts ∙ sym (ap length g); holds = h .holds ∙ ap (sets old 0) (sym g) }
+
+    -- as the two arms of a pass leave the list and the count
+    pub collect-yes : {new′ : List ℕ} {count′ : ℕ} → f m ≡ true → new′ ≡ set new count m → count′ ≡ count + 1 → Collected f old new′ (m + 1) count′
+    collect-yes e a b = subst₂ (λ (l : List ℕ) (k : ℕ). Collected f old l (m + 1) k) (sym a) (sym b) (stored e)
+
+    pub collect-no : {new′ : List ℕ} {count′ : ℕ} → f m ≡ false → new′ ≡ new → count′ ≡ count → Collected f old new′ (m + 1) count′
+    collect-no e a b = subst₂ (λ (l : List ℕ) (k : ℕ). Collected f old l (m + 1) k) (sym a) (sym b) (passed-over e)
+
+-- ---- a function's values, stored one by one
+
+pub fill-more : (g : ℕ → ℕ) (fs : List ℕ) (q x : ℕ) → q < length fs → ((k : ℕ) → k < q → getD fs k 0 ≡ g k) → x ≡ g q
+    → (k : ℕ) → k < q + 1 → getD (set fs q x) k 0 ≡ g k
+fill-more g fs q x l m e =
+    below-more (λ k. getD (set fs q x) k 0 ≡ g k) q (λ k h. getD-set-other fs q k x 0 (λ d. omega arith) ∙ m k h) (getD-set-same fs q x 0 l ∙ e)

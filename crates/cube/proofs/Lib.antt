@@ -1,0 +1,12 @@
+pub mod Bools
+pub mod Below
+pub mod Digits
+pub mod Spelling
+pub mod Rows
+pub mod Codes
+pub mod Implicants
+pub mod Positions
+pub mod Theorems
+pub mod Independent
+pub mod Cases
+pub mod Lent

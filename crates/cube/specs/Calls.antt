@@ -1,0 +1,66 @@
+-- What the calls of document 01 share: the numbers of refusals with their conditions, an answer, and what is left in a lent place.
+-- The width, the most rows of a list and the least lengths stand here once. Assumes nothing.
+use Prim.Native.Nat.{ℕ, zero, suc, _^_}
+use mathlib.Core.Bool.{Bool, cond, not, _||_}
+use mathlib.Core.List.{List, [], _∷_, _++_}
+use lib.Dec.{eqb, ltb, leb}
+use lib.ListN.{length, drop}
+use Rattle.cube.specs.Below.{some}
+use Rattle.cube.specs.Words.{cell, rowsOf, allFormed}
+use Rattle.cube.specs.declared.Counted.{Counted}
+use Rattle.cube.specs.declared.Counted.the-variants.{Count, Refused}
+
+-- "Width n is 1 to 6."
+abbrev pub widest : ℕ
+widest = 6
+
+-- "1 width not 1 to 6."
+abbrev pub badWidth : ℕ → Bool
+badWidth n = ltb n 1 || ltb widest n
+
+-- "2 table not 2^n cells."
+abbrev pub badLength : ℕ → List ℕ → Bool
+badLength n t = not (eqb (length t) (2 ^ n))
+
+-- "3 a cell above 2."
+unfoldable pub badCell : List ℕ → Bool
+badCell t = some (length t) (λ c. ltb 2 (cell t c))
+
+-- "4 lent output too short.": fewer places than are needed
+abbrev pub short : ℕ → ℕ → Bool
+short places needed = ltb places needed
+
+-- "8 cube number 3^n or more."
+abbrev pub badCube : ℕ → ℕ → Bool
+badCube n q = leb (3 ^ n) q
+
+-- a condition with its number
+pub record Condition : Type 0 where
+  pub holds : Bool
+  pub number : ℕ
+
+abbrev pub when : Bool → ℕ → Condition
+when b k = record { holds = b; number = k }
+
+-- "the earlier one wins": the number of the first condition that holds, or 0 where none does
+abbrev pub firstOf : List Condition → ℕ
+firstOf [] = 0
+firstOf (x ∷ xs) = cond (x .holds) (x .number) (firstOf xs)
+
+-- what a call answers: a refusal's number alone, or its values
+pub data Answer (A : Type 0) : Type 0 where
+  refuses : ℕ → Answer A
+  gives : A → Answer A
+
+-- the answer of a call that refuses with this number, or gives a where the number is 0
+abbrev pub answered : {A : Type 0} → ℕ → A → Answer A
+answered refusal a = cond (eqb refusal 0) (gives a) (refuses refusal)
+
+-- "A refusal [..] changes no lent byte, place or chart row. On success, places past the count are unchanged.": a lent list afterwards
+abbrev pub written : {A : Type 0} → ℕ → List A → List A → List A
+written refusal new old = cond (eqb refusal 0) (new ++ drop (length new) old) old
+
+-- the paper's number and value for each case of a count
+abbrev pub countAnswer : Counted → Answer ℕ
+countAnswer (Count k) = gives k
+countAnswer (Refused k) = refuses k
