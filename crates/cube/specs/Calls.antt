@@ -1,12 +1,13 @@
 -- What the calls of document 01 share: the numbers of refusals with their conditions, an answer, and what is left in a lent place.
 -- The width, the most rows of a list and the least lengths stand here once. Assumes nothing.
+use mathlib.Core.Path.{_≡_}
 use Prim.Native.Nat.{ℕ, zero, suc, _^_}
 use mathlib.Core.Bool.{Bool, cond, not, _||_}
 use mathlib.Core.List.{List, [], _∷_, _++_}
 use lib.Dec.{eqb, ltb, leb}
 use lib.ListN.{length, drop}
 use Rattle.cube.specs.Below.{some}
-use Rattle.cube.specs.Words.{cell, rowsOf, allFormed}
+use Rattle.cube.specs.Words.{cell}
 use Rattle.cube.specs.declared.Counted.{Counted}
 use Rattle.cube.specs.declared.Counted.the-variants.{Count, Refused}
 
@@ -54,13 +55,20 @@ pub data Answer (A : Type 0) : Type 0 where
 
 -- the answer of a call that refuses with this number, or gives a where the number is 0
 abbrev pub answered : {A : Type 0} → ℕ → A → Answer A
-answered refusal a = cond (eqb refusal 0) (gives a) (refuses refusal)
+answered zero a = gives a
+answered (suc k) a = refuses (suc k)
 
 -- "A refusal [..] changes no lent byte, place or chart row. On success, places past the count are unchanged.": a lent list afterwards
 abbrev pub written : {A : Type 0} → ℕ → List A → List A → List A
-written refusal new old = cond (eqb refusal 0) (new ++ drop (length new) old) old
+written zero new old = new ++ drop (length new) old
+written (suc k) new old = old
 
 -- the paper's number and value for each case of a count
 abbrev pub countAnswer : Counted → Answer ℕ
 countAnswer (Count k) = gives k
 countAnswer (Refused k) = refuses k
+
+-- What a call promises that writes a list of numbers and answers their count: of its answer and of the lent places, refused input included.
+pub record Listed (refusal : ℕ) (list old new : List ℕ) (r : Counted) : Type 0 where
+  pub answer : countAnswer r ≡ answered refusal (length list)
+  pub places : new ≡ written refusal list old

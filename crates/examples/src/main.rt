@@ -1,0 +1,7 @@
+// Runs the calls of document 01 on its edges and on worked examples, and prints what they answer and leave.
+mod cubes;
+mod print;
+
+fn main() {
+    cubes::run();
+}
