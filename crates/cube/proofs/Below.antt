@@ -10,7 +10,7 @@ use native.Mathlib.Omega.{arith}
 use lib.Dec.{T, eqb, eqb→eq, eqb-refl}
 use lib.ListN.{length, length-append, getD}
 use Rattle.cube.specs.Below.{flag, every, some, those, run}
-use Rattle.cube.proofs.Bools.{and-l, and-r, and-i, or-e, or-l, or-r, not-e, not-i, same, is-true, is-false, lt-or-le, eq-or-ne}
+use Rattle.cube.proofs.Bools.{and-l, and-r, and-i, or-e, or-l, or-r, not-e, not-i, same, is-true, is-false, holds, lt-or-le, eq-or-ne}
 
 -- ---- every and some
 
@@ -49,6 +49,18 @@ none-at m f h k l x = not-e (some m f) h (some-by m f k l x)
 
 pub none-by : (m : ℕ) (f : ℕ → Bool) → ((k : ℕ) → k < m → T (f k) → ⊥) → T (not (some m f))
 none-by m f h = not-i (some m f) (λ s. let r = some-at m f s in h (r .0) (r .1) (r .2))
+
+-- as a loop finds it: one that passes, or none below the bound
+pub some-found : (m : ℕ) (f : ℕ → Bool) (k : ℕ) → k < m → f k ≡ true → some m f ≡ true
+some-found m f k l e = is-true (some m f) (some-by m f k l (holds (f k) e))
+
+pub some-none : (m : ℕ) (f : ℕ → Bool) → ((k : ℕ) → k < m → f k ≡ false) → some m f ≡ false
+some-none m f h = is-false (some m f) (λ s. let r = some-at m f s in subst T (h (r .0) (r .1)) (r .2))
+
+pub some-same : (m : ℕ) (f g : ℕ → Bool) → ((k : ℕ) → k < m → f k ≡ g k) → some m f ≡ some m g
+unfolding some
+some-same zero f g e = refl
+some-same (suc m) f g e = ap₂ _||_ (e m (lt-suc-self m)) (some-same m f g (λ k l. e k (omega arith)))
 
 -- ---- those that pass
 

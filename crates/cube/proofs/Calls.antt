@@ -2,15 +2,16 @@
 -- call that writes a list ends. Assumes nothing.
 use mathlib.Core.Path.{_≡_, refl, sym, ap, _∙_}
 use mathlib.Core.Bool.{Bool, true, false, cond, _||_, true≢false}
-use mathlib.Core.List.{List, _∷_}
+use mathlib.Core.List.{List, [], _∷_, _++_}
 use Prim.Native.Nat.{ℕ, suc, _^_, _≤_}
 use native.Mathlib.Nat.{pow-le-pow-right}
-use lib.Dec.{ltb, lit<}
+use native.Mathlib.Omega.{arith}
+use lib.Dec.{eqb, ltb, lit<}
 use lib.ListN.{length}
 use lib.Pow.{pow-mono}
 use lib.Seq.{sets}
-use borrow.Author.Tests.{ltb-false}
-use Rattle.cube.specs.Calls.{widest, badWidth, Condition, when, firstOf, answered, written, Listed}
+use borrow.Author.Tests.{ltb-false, eqb-true, not-false}
+use Rattle.cube.specs.Calls.{widest, badWidth, badLength, badCell, Condition, when, firstOf, tableConditions, answered, written, Listed}
 use Rattle.cube.specs.declared.Counted.the-variants.{Count, Refused}
 use Rattle.cube.proofs.Lent.{sets-front}
 
@@ -39,6 +40,47 @@ first-holds b k rest e = ap (λ (x : Bool). cond x k (firstOf rest)) e
 
 pub first-passes : (b : Bool) (k : ℕ) (rest : List Condition) → b ≡ false → firstOf (when b k ∷ rest) ≡ firstOf rest
 first-passes b k rest e = ap (λ (x : Bool). cond x k (firstOf rest)) e
+
+-- ---- a table that is not refused
+
+pub record Accepted (n : ℕ) (t : List ℕ) : Type 0 where
+  pub from : 1 ≤ n
+  pub to : n ≤ widest
+  pub cells : length t ≡ 2 ^ n
+  pub meant : badCell t ≡ false
+
+none-of : (a b c : Bool) → _≡_ {A = ℕ} (cond a 1 (cond b 2 (cond c 3 0))) 0 → (a ≡ false) × (b ≡ false) × (c ≡ false)
+none-of true b c e = absurd (omega arith)
+none-of false true c e = absurd (omega arith)
+none-of false false true e = absurd (omega arith)
+none-of false false false e = (refl, refl, refl)
+
+one-of : (a b c : Bool) (k rest : ℕ) → cond a 1 (cond b 2 (cond c 3 0)) ≡ suc k → cond a 1 (cond b 2 (cond c 3 rest)) ≡ suc k
+one-of true b c k rest e = e
+one-of false true c k rest e = e
+one-of false false true k rest e = e
+one-of false false false k rest e = absurd (omega arith)
+
+module _ (n : ℕ) (t : List ℕ) where
+  pub accepted : firstOf (tableConditions n t) ≡ 0 → Accepted n t
+  accepted e =
+      let f = none-of (badWidth n) (badLength n t) (badCell t) e in
+      record {
+        from = width-from n (f .0);
+        to = width-to n (f .0);
+        cells = eqb-true (length t) (2 ^ n) (not-false (eqb (length t) (2 ^ n)) (f .1));
+        meant = f .2;
+      }
+
+  -- the conditions of a call behind those of the table
+  pub table-passes : (rest : List Condition) → firstOf (tableConditions n t) ≡ 0 → firstOf (tableConditions n t ++ rest) ≡ firstOf rest
+  table-passes rest e =
+      let f = none-of (badWidth n) (badLength n t) (badCell t) e in
+      first-passes (badWidth n) 1 (when (badLength n t) 2 ∷ when (badCell t) 3 ∷ rest) (f .0)
+      ∙ first-passes (badLength n t) 2 (when (badCell t) 3 ∷ rest) (f .1) ∙ first-passes (badCell t) 3 rest (f .2)
+
+  pub table-refuses : (rest : List Condition) (k : ℕ) → firstOf (tableConditions n t) ≡ suc k → firstOf (tableConditions n t ++ rest) ≡ suc k
+  table-refuses rest k e = one-of (badWidth n) (badLength n t) (badCell t) k (firstOf rest) e
 
 -- ---- a call that writes a list
 

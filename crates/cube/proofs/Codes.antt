@@ -1,16 +1,16 @@
 -- The codes of a cube, ascending, split at its first untested digit: those of the 0 half stand before those of the 1 half, because every code
--- of the 0 half is below the value of the 1 half, its lowest code. Assumes nothing.
-use mathlib.Core.Path.{_≡_, subst, subst⁻¹}
+-- of the 0 half is below the value of the 1 half, its lowest code. So an implicant splits as its codes do. Assumes nothing.
+use mathlib.Core.Path.{_≡_, refl, sym, ap, ap₂, _∙_, subst, subst⁻¹}
 use mathlib.Core.Logic.{_⊎_, inl, inr, ⊎-elim}
-use mathlib.Core.Bool.{Bool, true, false}
-use mathlib.Core.List.{[], _∷_, _++_}
+use mathlib.Core.Bool.{Bool, true, false, cond, not, _&&_, _||_, and-comm, and-assoc, and-true}
+use mathlib.Core.List.{List, [], _∷_, _++_}
 use Prim.Native.Nat.{ℕ, zero, suc, _+_, _*_, _^_, _/_, _%_, _<_, _≤_}
 use native.Mathlib.Nat.{not-suc-le-zero, le-of-suc-le-suc, pow-suc}
 use native.Mathlib.Omega.{arith}
 use lib.Dec.{T, eqb, lit<}
 use lib.ListN.{length}
-use Rattle.cube.specs.Below.{flag, those}
-use Rattle.cube.specs.Words.{fits, tested, digit, cubeMatches, cubeLiterals, valueOf, codesOf}
+use Rattle.cube.specs.Below.{flag, every, those}
+use Rattle.cube.specs.Words.{offSet, fits, tested, digit, cubeMatches, cubeLiterals, valueOf, codesOf, implicant}
 use Rattle.cube.proofs.Bools.{and-l, and-r, fits-e}
 use Rattle.cube.proofs.Below.{those-one, those-split, those-length}
 use Rattle.cube.proofs.Digits.{putDigit, last-lt, flag-lt, is-tested, is-untested, matches-last, matches-rest, matches-at, value-at, value-lt, value-matches, value-alone, contained-matches, put-narrower, put-literals, matches-halves}
@@ -82,3 +82,40 @@ pub literals-le : (n q : ℕ) → cubeLiterals n q ≤ n
 unfolding cubeLiterals
 literals-le zero q = omega arith
 literals-le (suc n) q = omega (arith, literals-le n (q / 3), flag-lt (tested (q % 3)))
+
+-- ---- implicants by their codes
+
+-- no code of the list is barred
+unfoldable clear : List ℕ → List ℕ → Bool
+clear t [] = true
+clear t (c ∷ cs) = not (offSet t c) && clear t cs
+
+clear-append : (t xs ys : List ℕ) → clear t (xs ++ ys) ≡ (clear t xs && clear t ys)
+unfolding clear
+clear-append t [] ys = refl
+clear-append t (x ∷ xs) ys = ap (λ (b : Bool). not (offSet t x) && b) (clear-append t xs ys) ∙ sym (and-assoc (not (offSet t x)) (clear t xs) (clear t ys))
+
+clear-cond : (t : List ℕ) (b : Bool) (m : ℕ) → clear t (cond b (m ∷ []) []) ≡ (not b || not (offSet t m))
+unfolding clear
+clear-cond t true m = and-true (not (offSet t m))
+clear-cond t false m = refl
+
+clear-those : (t : List ℕ) (m : ℕ) (f : ℕ → Bool) → clear t (those m f) ≡ every m (λ c. not (f c) || not (offSet t c))
+unfolding those every clear
+clear-those t zero f = refl
+clear-those t (suc m) f =
+    clear-append t (those m f) (cond (f m) (m ∷ []) []) ∙ ap₂ _&&_ (clear-those t m f) (clear-cond t (f m) m)
+    ∙ and-comm (every m (λ c. not (f c) || not (offSet t c))) (not (f m) || not (offSet t m))
+
+implicant-clear : (n : ℕ) (t : List ℕ) (q : ℕ) → implicant n t q ≡ clear t (codesOf n q)
+unfolding implicant codesOf
+implicant-clear n t q = sym (clear-those t (2 ^ n) (cubeMatches n q))
+
+pub implicant-one : (n : ℕ) (t : List ℕ) (q c : ℕ) → codesOf n q ≡ c ∷ [] → implicant n t q ≡ not (offSet t c)
+unfolding clear
+implicant-one n t q c e = implicant-clear n t q ∙ ap (clear t) e ∙ and-true (not (offSet t c))
+
+pub implicant-two : (n : ℕ) (t : List ℕ) (q a b : ℕ) → codesOf n q ≡ codesOf n a ++ codesOf n b → implicant n t q ≡ (implicant n t a && implicant n t b)
+implicant-two n t q a b e =
+    implicant-clear n t q ∙ ap (clear t) e ∙ clear-append t (codesOf n a) (codesOf n b)
+    ∙ ap₂ _&&_ (sym (implicant-clear n t a)) (sym (implicant-clear n t b))

@@ -1,6 +1,6 @@
 -- Writing into a lent list from the front: runs of stores join, a pass that stores each number that passes a test, and a pass that fills a list
 -- with a function's values. Assumes nothing.
-use mathlib.Core.Path.{_≡_, refl, sym, ap, ap₂, _∙_, subst₂}
+use mathlib.Core.Path.{_≡_, refl, sym, ap, ap₂, _∙_, subst, subst₂}
 use mathlib.Core.Bool.{Bool, true, false, cond}
 use mathlib.Core.List.{List, [], _∷_, _++_, append-nil}
 use Prim.Native.Nat.{ℕ, suc, _+_, _<_, _≤_}
@@ -65,6 +65,11 @@ module _ (f : ℕ → Bool) (old : List ℕ) where
 
     pub collect-no : {new′ : List ℕ} {count′ : ℕ} → f m ≡ false → new′ ≡ new → count′ ≡ count → Collected f old new′ (m + 1) count′
     collect-no e a b = subst₂ (λ (l : List ℕ) (k : ℕ). Collected f old l (m + 1) k) (sym a) (sym b) (passed-over e)
+
+-- all of it, where m is the end of the pass
+pub collected : (f : ℕ → Bool) (old new : List ℕ) (m count : ℕ) → Collected f old new m count → {k : ℕ} → m ≡ k
+    → (count ≡ length (those k f)) × (new ≡ sets old 0 (those k f))
+collected f old new m count h e = subst (λ (i : ℕ). (count ≡ length (those i f)) × (new ≡ sets old 0 (those i f))) e (h .counts, h .holds)
 
 -- ---- a function's values, stored one by one
 

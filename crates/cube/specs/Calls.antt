@@ -48,6 +48,10 @@ abbrev pub firstOf : List Condition → ℕ
 firstOf [] = 0
 firstOf (x ∷ xs) = cond (x .holds) (x .number) (firstOf xs)
 
+-- what every call on a table refuses first: "1, 2, 3"
+abbrev pub tableConditions : ℕ → List ℕ → List Condition
+tableConditions n t = when (badWidth n) 1 ∷ when (badLength n t) 2 ∷ when (badCell t) 3 ∷ []
+
 -- what a call answers: a refusal's number alone, or its values
 pub data Answer (A : Type 0) : Type 0 where
   refuses : ℕ → Answer A

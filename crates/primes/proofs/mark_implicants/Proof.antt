@@ -1,0 +1,62 @@
+-- `primes::mark_implicants` meets its contract: the flags before q are right, and the next one is made from them. Assumes nothing.
+use mathlib.Core.Path.{_≡_, refl, subst}
+use Prim.Native.Nat.{ℕ, _-_, _^_, _<_, _≤_}
+use native.Mathlib.Omega.{arith}
+use lib.ListN.{length, length-set}
+use borrow.Author.Needs.{needs}
+use Rattle.cube.specs.Below.{flag}
+use Rattle.cube.specs.Words.{implicant}
+use Rattle.cube.specs.Calls.{widest}
+use Rattle.cube.proofs.Lent.{fill-more}
+use Rattle.primes.specs.Primes.{Flagged, Marks}
+use Rattle.primes.proofs.mark_implicants.Statement.{statement}
+use Rattle.primes.proofs.mark_implicants.Tie as tie
+
+abbrev Inv-loop : tie.InvT-loop
+Inv-loop n table flags₀ cubes q₀ flags q =
+    Flagged n table flags × (length flags ≡ length flags₀) × (cubes ≡ 3 ^ n) × (q ≤ cubes) × Marks (implicant n table) flags q
+
+abbrev μ-loop : tie.MeasureT-loop
+μ-loop n table flags₀ cubes q₀ flags q = cubes - q
+
+cubes-requires : tie.Need-cubes-requires Inv-loop μ-loop
+cubes-requires c κs = search needs
+
+loop-holds : tie.Need-loop-holds Inv-loop μ-loop
+loop-holds c = (search needs, refl, search needs, search needs, λ k l. absurd (omega arith))
+
+implicant-flag-requires : tie.Need-implicant-flag-requires Inv-loop μ-loop
+implicant-flag-requires c κs =
+    let i = c .before .before .loop .inv in
+    (i .0, subst (λ (j : ℕ). c .before .before .loop .q < j) (i .2) (c .before .loop-test .taken), i .4)
+
+slice-write-flags : tie.Need-slice-write-flags Inv-loop μ-loop
+slice-write-flags c = omega (arith, c .before .before .before .loop .inv .0 .enough)
+
+add-q : tie.Need-add-q Inv-loop μ-loop
+add-q c = omega arith
+
+loop-less : tie.Need-loop-less Inv-loop μ-loop
+loop-less c = omega arith
+
+loop-again : tie.Need-loop-again Inv-loop μ-loop
+loop-again c =
+    let i = c .before .before .before .loop .inv in
+    let s = c .before .before .before .before .before .before .before in (
+      record { width = i .0 .width; cells = i .0 .cells; enough = simp length-set (i .0 .enough) },
+      simp length-set (i .1),
+      i .2,
+      omega arith,
+      fill-more (λ q. flag (implicant (s .args .n) (s .args .table .now) q)) (c .before .before .before .loop .flags) _ _ (slice-write-flags c) (i .4) (c .implicant-flag .ensures),
+    )
+
+same-length : tie.Need-same-length Inv-loop μ-loop
+same-length c = c .before .loop .inv .1
+
+returns : tie.Need-returns Inv-loop μ-loop
+returns c = λ k l. c .before .loop .inv .4 k (omega arith)
+
+pub mark-implicants-spec : {M : Type 1} → statement M
+mark-implicants-spec =
+    tie.close
+    (tie.spec Inv-loop μ-loop cubes-requires loop-holds implicant-flag-requires slice-write-flags add-q loop-less loop-again same-length returns)

@@ -1,0 +1,158 @@
+// Primes: the implicants are marked in one ascending pass over the cubes, a cube with untested digits from its two halves,
+// which have smaller numbers; those of which no literal can be given up are listed.
+//
+//     let mut places = [0u16; 9];
+//     primes::primes(2, &[1, 0, 0, 2], &mut places)   // count 2: cubes 0 (00) and 4 (11)
+use cells::Split;
+use cube::Counted;
+ghost use mathlib.Core.Path.{_≡_};
+ghost use Prim.Native.Nat.{_<_, _≤_, _^_};
+ghost use lib.ListN.{length};
+ghost use lib.Seq.{sets};
+ghost use Rattle.cube.specs.Below.{flag, those};
+ghost use Rattle.cube.specs.Words.{implicant, prime, primesOf};
+ghost use Rattle.cube.specs.Calls.{widest, badCell, tableConditions, firstOf, Listed};
+ghost use Rattle.primes.specs.Primes.{primesRefuses, Flagged, Marks, isMarked, expandsBy, primeBy};
+
+// Whether a cell is above 2.
+fn bad_cell(table: &[u8]) -> bool
+    ensures { λ r. ⌜ r ≡ badCell (now (table .entry)) ⌝ }
+{
+    let mut c = 0;
+    while c < table.len() {
+        if 2 < table[c] {
+            return true;
+        }
+        c += 1;
+    }
+    false
+}
+
+// What every call on a table refuses first: 1, 2, 3, or 0 where none of these holds.
+pub fn table_refusal(n: usize, table: &[u8]) -> u8
+    ensures { λ r. ⌜ r ≡ firstOf (tableConditions n (now (table .entry))) ⌝ }
+{
+    if spelling::bad_width(n) {
+        return 1;
+    }
+    if table.len() != spelling::codes(n) {
+        return 2;
+    }
+    if bad_cell(table) {
+        return 3;
+    }
+    0
+}
+
+// The flag of cube q: from its cell, or from the flags of its halves.
+fn implicant_flag(n: usize, table: &[u8], flags: &[u8], q: usize) -> u8
+    requires { ⌜ Flagged n (now table) (now flags) × (q < 3 ^ n) × Marks (implicant n (now table)) (now flags) q ⌝ }
+    ensures { λ r. ⌜ r ≡ flag (implicant n (now (table .entry)) q) ⌝ }
+{
+    match cells::split_at_first(n, q) {
+        Split::Code(code) => { if table[code as usize] == 0 { 0 } else { 1 } }
+        Split::Halves(low, high) => { if flags[low] == 0 { 0 } else { flags[high] } }
+    }
+}
+
+// Marks the implicants among the cubes of n digits.
+fn mark_implicants(n: usize, table: &[u8], flags: &mut [u8])
+    requires { ⌜ Flagged n (now table) (now flags) ⌝ }
+    ensures { λ _. ⌜ Marks (implicant n (now (table .entry))) (now (flags .exit)) (3 ^ n) ⌝ }
+{
+    let cubes = spelling::cubes(n);
+    let mut q = 0;
+    while q < cubes {
+        flags[q] = implicant_flag(n, table, flags, q);
+        q += 1;
+    }
+}
+
+// Whether digit k of q is a literal that can be given up.
+fn expands(n: usize, flags: &[u8], q: usize, k: usize) -> bool
+    requires { ⌜ (n ≤ widest) × (3 ^ n ≤ length (now flags)) × (q < 3 ^ n) × (k < n) ⌝ }
+    ensures { λ r. ⌜ r ≡ expandsBy (now (flags .entry)) q k ⌝ }
+{
+    let d = cells::digit(q, k);
+    if d == 2 {
+        return false;
+    }
+    let wider = q + (2 - d) * spelling::cubes(k);
+    flags[wider] != 0
+}
+
+// Whether q is an implicant of which no literal can be given up.
+fn is_prime(n: usize, flags: &[u8], q: usize) -> bool
+    requires { ⌜ (n ≤ widest) × (3 ^ n ≤ length (now flags)) × (q < 3 ^ n) ⌝ }
+    ensures { λ r. ⌜ r ≡ primeBy n (now (flags .entry)) q ⌝ }
+{
+    if flags[q] == 0 {
+        return false;
+    }
+    let mut k = 0;
+    while k < n {
+        if expands(n, flags, q, k) {
+            return false;
+        }
+        k += 1;
+    }
+    true
+}
+
+// Marks the primes by the flags of the implicants.
+fn mark_maximal(n: usize, flags: &[u8], marks: &mut [u8])
+    requires { ⌜ (n ≤ widest) × (3 ^ n ≤ length (now flags)) × (3 ^ n ≤ length (now marks)) ⌝ }
+    ensures { λ _. ⌜ Marks (primeBy n (now (flags .entry))) (now (marks .exit)) (3 ^ n) ⌝ }
+{
+    let cubes = spelling::cubes(n);
+    let mut q = 0;
+    while q < cubes {
+        marks[q] = is_prime(n, flags, q) as u8;
+        q += 1;
+    }
+}
+
+// Marks the primes of a table of n variables: 1 for a prime, 0 for another cube.
+pub fn mark_primes(n: usize, table: &[u8], marks: &mut [u8])
+    requires { ⌜ Flagged n (now table) (now marks) ⌝ }
+    ensures { λ _. ⌜ Marks (prime n (now (table .entry))) (now (marks .exit)) (3 ^ n) ⌝ }
+{
+    let mut flags = [0u8; 729];
+    mark_implicants(n, table, &mut flags);
+    mark_maximal(n, &flags, marks);
+}
+
+// Lists the numbers below m that are marked, ascending, and returns how many there are.
+pub fn list_marked(m: usize, marks: &[u8], out: &mut [u16]) -> usize
+    requires { ⌜ (m ≤ 3 ^ widest) × (m ≤ length (now marks)) × (m ≤ length (now out)) ⌝ }
+    ensures { λ r. ⌜ (r ≡ length (those m (isMarked (now (marks .entry)))))
+        × (now (out .exit) ≡ sets (now (out .entry)) 0 (those m (isMarked (now (marks .entry))))) ⌝ }
+{
+    let mut count = 0;
+    let mut q = 0;
+    while q < m {
+        if marks[q] != 0 {
+            out[count] = q as u16;
+            count += 1;
+        }
+        q += 1;
+    }
+    count
+}
+
+pub fn primes(n: usize, table: &[u8], out: &mut [u16]) -> Counted
+    ensures { λ r. ⌜ Listed (primesRefuses n (now (table .entry)) (length (now (out .entry)))) (primesOf n (now (table .entry)))
+        (now (out .entry)) (now (out .exit)) r ⌝ }
+{
+    let k = table_refusal(n, table);
+    if k != 0 {
+        return Counted::Refused(k);
+    }
+    let cubes = spelling::cubes(n);
+    if out.len() < cubes {
+        return Counted::Refused(4);
+    }
+    let mut marks = [0u8; 729];
+    mark_primes(n, table, &mut marks);
+    Counted::Count(list_marked(cubes, &marks, out))
+}
