@@ -10,3 +10,4 @@ pub mod Theorems
 pub mod Independent
 pub mod Cases
 pub mod Lent
+pub mod McCluskey
