@@ -1,4 +1,4 @@
--- The laws of the numbers below a bound: every, some, those and run, each by induction on the bound.
+-- The laws of the numbers below a bound: every, some, those and run, each by induction on the bound; and how many of those that pass pass another test.
 -- Assumes nothing.
 use mathlib.Core.Path.{_≡_, refl, sym, ap, ap₂, _∙_, subst, subst⁻¹}
 use mathlib.Core.Logic.{_⊎_, inl, inr, ⊎-elim}
@@ -9,8 +9,8 @@ use native.Mathlib.Nat.{not-suc-le-zero, le-of-suc-le-suc, eq-or-lt-of-le, lt-su
 use native.Mathlib.Omega.{arith}
 use lib.Dec.{T, eqb, eqb→eq, eqb-refl}
 use lib.ListN.{length, length-append, getD}
-use Rattle.cube.specs.Below.{flag, every, some, those, run}
-use Rattle.cube.proofs.Bools.{and-l, and-r, and-i, or-e, or-l, or-r, not-e, not-i, same, is-true, is-false, holds, lt-or-le, eq-or-ne}
+use Rattle.cube.specs.Below.{flag, every, some, those, count, Lists, run}
+use Rattle.cube.proofs.Bools.{and-l, and-r, and-i, or-e, or-l, or-r, not-e, not-i, same, is-true, is-false, holds, lt-or-le}
 
 -- ---- every and some
 
@@ -158,6 +158,58 @@ module _ (f : ℕ → Bool) where
   count-more a (suc m) l =
       ⊎-elim (λ e. subst⁻¹ (λ (i : ℕ). length (those i f) ≤ length (those (suc m) f)) e (omega arith))
       (λ k. omega (arith, count-suc m, count-more a m (le-of-suc-le-suc k))) (eq-or-lt-of-le l)
+
+  -- where one passes, two that pass are the same
+  one-passes : (m i j : ℕ) → length (those m f) ≡ 1 → i < m → j < m → T (f i) → T (f j) → i ≡ j
+  one-passes m i j e l k x y =
+      ⊎-elim (λ a. absurd (two-pass i j a k x y)) (λ a. ⊎-elim (λ b. sym b) (λ b. absurd (two-pass j i b l y x)) (eq-or-lt-of-le a))
+      (lt-or-le i j)
+    where
+      passes : (i : ℕ) → T (f i) → flag (f i) ≡ 1
+      passes i x = ap flag (is-true (f i) x)
+
+      two-pass : (i j : ℕ) → i < j → j < m → T (f i) → T (f j) → ⊥
+      two-pass i j a k x y =
+          omega (arith, count-suc i, passes i x, count-more (suc i) j a, count-suc j, passes j y, count-more (suc j) m k)
+
+-- ---- how many of a list pass
+
+count-append : (g : ℕ → Bool) (xs ys : List ℕ) → count g (xs ++ ys) ≡ count g xs + count g ys
+unfolding count
+count-append g [] ys = sym (zero-add (count g ys))
+count-append g (x ∷ xs) ys = omega (arith, count-append g xs ys)
+
+module _ (f g : ℕ → Bool) where
+  -- of those that pass one test, so many pass another as pass both
+  count-those : (m : ℕ) → count g (those m f) ≡ length (those m (λ i. f i && g i))
+  unfolding count those
+  count-those zero = refl
+  count-those (suc m) = omega (arith, count-append g (those m f) (cond (f m) (m ∷ []) []), count-those m, count-suc (λ i. f i && g i) m, last (f m))
+    where
+      last : (b : Bool) → count g (cond b (m ∷ []) []) ≡ flag (b && g m)
+      last true = omega arith
+      last false = refl
+
+  -- one passes both exactly where v alone does
+  pub count-one : (m v : ℕ) → v < m → T (f v) → T (g v) → ((i : ℕ) → i < m → T (f i) → T (g i) → i ≡ v) → count g (those m f) ≡ 1
+  count-one m v l x y e =
+      count-those m
+      ∙ ap length (those-one m (λ i. f i && g i) v l (and-i (f v) (g v) x y) (λ i k h. e i k (and-l (f i) (g i) h) (and-r (f i) (g i) h)))
+
+  pub count-alone : (m i j : ℕ) → count g (those m f) ≡ 1 → i < m → j < m → T (f i) → T (g i) → T (f j) → T (g j) → i ≡ j
+  count-alone m i j e l k x x′ y y′ =
+      one-passes (λ i. f i && g i) m i j (sym (count-those m) ∙ e) l k (and-i (f i) (g i) x x′) (and-i (f j) (g j) y y′)
+
+-- those below m that pass are the numbers of which P is true
+pub those-lists : (m : ℕ) (f : ℕ → Bool) (P : ℕ → Type 0) → ((q : ℕ) → q < m → T (f q) → P q) → ((q : ℕ) → P q → (q < m) × T (f q))
+    → Lists (those m f) P
+those-lists m f P to from = record {
+  each = λ q p. count-one f (eqb q) m q (from q p .0) (from q p .1) (eqb-refl q) (λ i l x y. sym (eqb→eq q i y));
+  no-other = λ q not-p. count-those f (eqb q) m ∙ ap length (those-none m (λ i. f i && eqb q i) (absent q not-p));
+}
+  where
+    absent : (q : ℕ) → (P q → ⊥) → (i : ℕ) → i < m → T (f i && eqb q i) → ⊥
+    absent q not-p i l h = not-p (subst⁻¹ P (eqb→eq q i (and-r (f i) (eqb q i) h)) (to i l (and-l (f i) (eqb q i) h)))
 
 -- ---- a function's values
 

@@ -11,7 +11,7 @@ use lib.Dec.{T, eqb, lit<}
 use borrow.Author.Tests.{eq-eqb, ne-eqb}
 use Rattle.cube.specs.Below.{flag}
 use Rattle.cube.specs.Words.{fits, tested, digit, cubeMatches, cubeLiterals, valueOf, careOf}
-use Rattle.cube.proofs.Bools.{and-l, and-r, and-i, fits-e, fits-two, fits-same}
+use Rattle.cube.proofs.Bools.{and-l, and-r, and-i, fits-e, fits-two, fits-same, eq-or-ne}
 
 -- the cube with digit d put at place k, counted from the last
 unfoldable pub putDigit : ℕ → ℕ → ℕ → ℕ
@@ -269,6 +269,40 @@ put-narrower (suc n) (suc k) d q l m e =
     subst⁻¹ T (contained-at-l n x (q % 3) (last-lt q) q)
     (and-i (fits (q % 3) (q % 3)) (contained n x (q / 3)) (fits-same (q % 3) (q % 3) refl) (put-narrower n k d (q / 3) (le-of-suc-le-suc l) m e))
 
+pub digit-lt : (k q : ℕ) → digit k q < 3
+unfolding digit
+digit-lt zero q = last-lt q
+digit-lt (suc k) q = digit-lt k (q / 3)
+
+-- the digits afterwards
+pub put-digit : (k d q : ℕ) → d < 3 → digit k (putDigit k d q) ≡ d
+unfolding putDigit digit
+put-digit zero d q m = last-digit (q / 3) d m
+put-digit (suc k) d q m = ap (digit k) (rest-digits (putDigit k d (q / 3)) (q % 3) (last-lt q)) ∙ put-digit k d (q / 3) m
+
+pub put-other : (k j d q : ℕ) → d < 3 → (j ≡ k → ⊥) → digit j (putDigit k d q) ≡ digit j q
+unfolding putDigit digit
+put-other zero zero d q m ne = absurd (ne refl)
+put-other zero (suc j) d q m ne = ap (digit j) (rest-digits (q / 3) d m)
+put-other (suc k) zero d q m ne = last-digit (putDigit k d (q / 3)) (q % 3) (last-lt q)
+put-other (suc k) (suc j) d q m ne =
+    ap (digit j) (rest-digits (putDigit k d (q / 3)) (q % 3) (last-lt q)) ∙ put-other k j d (q / 3) m (λ e. ne (ap suc e))
+
+-- cubes with the same digits are the same
+digits-same : (n q p : ℕ) → q < 3 ^ n → p < 3 ^ n → ((k : ℕ) → k < n → digit k q ≡ digit k p) → q ≡ p
+unfolding digit
+digits-same zero q p l m f = let e : 3 ^ 0 ≡ 1 = refl in omega arith
+digits-same (suc n) q p l m f =
+    let e : 3 ^ suc n ≡ 3 ^ n * 3 = pow-suc 3 n in
+    let r : q / 3 ≡ p / 3 = digits-same n (q / 3) (p / 3) (omega arith) (omega arith) (λ k j. f (suc k) (omega arith)) in
+    omega (arith, f 0 (omega arith))
+
+-- cubes with the same digits but for the one at place k: each is the other with its own digit put there
+pub put-between : (n k q p : ℕ) → k < n → q < 3 ^ n → p < 3 ^ n → ((j : ℕ) → j < n → (j ≡ k → ⊥) → digit j q ≡ digit j p) → q ≡ putDigit k (digit k q) p
+put-between n k q p l a b f = digits-same n q (putDigit k (digit k q) p) a (put-lt n k (digit k q) p l (digit-lt k q) b) λ j m.
+    ⊎-elim (λ e. subst⁻¹ (λ (i : ℕ). digit i q ≡ digit i (putDigit k (digit k q) p)) e (sym (put-digit k (digit k q) p (digit-lt k q))))
+    (λ ne. f j m ne ∙ sym (put-other k j (digit k q) p (digit-lt k q) ne)) (eq-or-ne j k)
+
 -- the bit of a code at place k, counted from the last
 unfoldable pub bit : ℕ → ℕ → ℕ
 bit zero c = c % 2
@@ -354,11 +388,6 @@ unfolding bit
 bit-weight zero c = ap (λ (i : ℕ). i % 2) (sym (div-one c))
 bit-weight (suc k) c =
     bit-weight k (c / 2) ∙ ap (λ (i : ℕ). i % 2) (div-div-eq-div-mul c 2 (2 ^ k) ∙ ap (λ (i : ℕ). c / i) (sym (pow-succ' 2 k)))
-
-pub digit-lt : (k q : ℕ) → digit k q < 3
-unfolding digit
-digit-lt zero q = last-lt q
-digit-lt (suc k) q = digit-lt k (q / 3)
 
 pub put-weight : (k d q : ℕ) → putDigit k d q + digit k q * 3 ^ k ≡ q + d * 3 ^ k
 unfolding putDigit digit

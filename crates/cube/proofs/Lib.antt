@@ -11,3 +11,4 @@ pub mod Independent
 pub mod Cases
 pub mod Lent
 pub mod Calls
+pub mod McCluskey

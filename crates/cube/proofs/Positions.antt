@@ -21,12 +21,12 @@ places-of zero q c h i l = absurd (not-suc-le-zero l)
 places-of (suc n) q c h zero l = matches-last n q c h
 places-of (suc n) q c h (suc i) l = places-of n (q / 3) (c / 2) (matches-rest n q c h) i (le-of-suc-le-suc l)
 
-of-places : (n q c : ℕ) → ((i : ℕ) → i < n → T (fits (digit i q) (bit i c))) → T (cubeMatches n q c)
+pub of-places : (n q c : ℕ) → ((i : ℕ) → i < n → T (fits (digit i q) (bit i c))) → T (cubeMatches n q c)
 unfolding digit bit cubeMatches
 of-places zero q c f = tt
 of-places (suc n) q c f = matches-by n q c (f 0 (omega arith)) (of-places n (q / 3) (c / 2) (λ i l. f (suc i) (omega arith)))
 
-value-bit : (n q i : ℕ) → i < n → bit i (valueOf n q) ≡ flag (eqb (digit i q) 1)
+pub value-bit : (n q i : ℕ) → i < n → bit i (valueOf n q) ≡ flag (eqb (digit i q) 1)
 unfolding digit bit valueOf
 value-bit zero q i l = absurd (not-suc-le-zero l)
 value-bit (suc n) q zero l = last-bit (valueOf n (q / 3)) (flag (eqb (q % 3) 1)) (flag-lt (eqb (q % 3) 1))
@@ -50,7 +50,7 @@ unfolding cubeLiterals digit
 literals-count zero q = sym (count-none (λ i. tested (digit i q)))
 literals-count (suc n) q = omega (arith, literals-count n (q / 3), count-shift n (λ i. tested (digit i q)))
 
-one-is : (b : ℕ) → b < 2 → b ≡ flag (eqb b 1)
+pub one-is : (b : ℕ) → b < 2 → b ≡ flag (eqb b 1)
 one-is zero l = refl
 one-is (suc zero) l = refl
 one-is (suc (suc b)) l = absurd (omega arith)

@@ -1,8 +1,11 @@
--- The numbers below a bound: whether every one passes a test, whether some one does, which do, and a function's values over them.
+-- The numbers below a bound: whether every one passes a test, whether some one does, which do, and a function's values over them; and how many
+-- of a list pass, and what a list holds.
 -- Assumes nothing.
-use Prim.Native.Nat.{ℕ, zero, suc}
+use mathlib.Core.Path.{_≡_}
+use Prim.Native.Nat.{ℕ, zero, suc, _+_}
 use mathlib.Core.Bool.{Bool, true, false, cond, _&&_, _||_}
 use mathlib.Core.List.{List, [], _∷_, _++_}
+use lib.Dec.{eqb}
 
 -- 1 for true, 0 for false
 abbrev pub flag : Bool → ℕ
@@ -23,6 +26,16 @@ some (suc m) f = f m || some m f
 unfoldable pub those : ℕ → (ℕ → Bool) → List ℕ
 those zero f = []
 those (suc m) f = those m f ++ cond (f m) (m ∷ []) []
+
+-- how many of a list pass
+unfoldable pub count : (ℕ → Bool) → List ℕ → ℕ
+count f [] = 0
+count f (x ∷ xs) = flag (f x) + count f xs
+
+-- the list holds each number of which P is true, once, and no other number
+pub record Lists (xs : List ℕ) (P : ℕ → Type 0) : Type 0 where
+  pub each : (q : ℕ) → P q → count (eqb q) xs ≡ 1
+  pub no-other : (q : ℕ) → (P q → ⊥) → count (eqb q) xs ≡ 0
 
 -- m values of f, from f i on
 unfoldable pub run : ℕ → ℕ → (ℕ → ℕ) → List ℕ

@@ -1,0 +1,108 @@
+-- Document 000 (McCluskey 1956) in its own words: binary characters and how they combine (section 3), the prime implicant table (section 4) and
+-- d-terms (section 10). Then the theorems that its prime implicants and single asterisk rows are document 01's primes and essentials.
+-- A binary character of n positions is a cube number, below 3^n, and digit k stands at the position of weight 2^k.
+-- `proofs/McCluskey.antt` proves the theorems. Assumes nothing.
+use mathlib.Core.Path.{_≡_}
+use mathlib.Core.Logic.{_↔_}
+use mathlib.Core.Bool.{Bool, not}
+use mathlib.Core.List.{List}
+use Prim.Native.Nat.{ℕ, _^_, _/_, _%_, _<_}
+use lib.Dec.{T}
+use Rattle.cube.specs.Below.{count, Lists}
+use Rattle.cube.specs.Words.{onSet, offSet, digit, cubeMatches, implicant, prime, essential, primesOf, essentialsOf}
+
+-- ---- section 3: prime implicants
+
+-- "using the symbols 0, 1 and - instead of primed and unprimed variables": the dash is digit 2
+abbrev pub dash : ℕ
+dash = 2
+
+-- "list in a column [..] the binary equivalents of the decimal numbers which specify the function": q is the binary equivalent of c
+pub record BinaryEquivalent (n c q : ℕ) : Type 0 where
+  pub row : c < 2 ^ n
+  pub below : q < 3 ^ n
+  pub digits : (k : ℕ) → k < n → digit k q ≡ c / 2 ^ k % 2
+
+-- section 10: "These d-terms should be included in the list of p-terms which are used to form the prime implicants.": all but the barred codes
+abbrev pub listed : List ℕ → ℕ → Bool
+listed t c = not (offSet t c)
+
+-- "identical in all positions except one"
+abbrev pub IdenticalExcept : ℕ → ℕ → ℕ → ℕ → Type 0
+IdenticalExcept n position a b = (k : ℕ) → k < n → (k ≡ position → ⊥) → digit k a ≡ digit k b
+
+-- "the two characters can be replaced by a single character": a and b by r
+pub record Combination (n a b r : ℕ) : Type 0 where
+  -- "If two binary characters are identical in all positions except one,"
+  pub position : ℕ
+  pub inside : position < n
+  pub identical : IdenticalExcept n position a b
+  pub differ : digit position a ≡ digit position b → ⊥
+  -- "and if neither character has a dash in the position in which they differ,"
+  pub first-undashed : digit position a ≡ dash → ⊥
+  pub second-undashed : digit position b ≡ dash → ⊥
+  -- "a single character which has a dash in the position in which the original characters differ"
+  pub below : r < 3 ^ n
+  pub dashed : digit position r ≡ dash
+  -- "and which is identical with the original characters in all other positions."
+  pub others : IdenticalExcept n position r a
+
+-- "This procedure is repeated and new columns are formed, Table II(d), until no further combinations are possible.": a character of any column
+pub data Character (n : ℕ) (t : List ℕ) : ℕ → Type 0 where
+  p-term : {c q : ℕ} → T (listed t c) → BinaryEquivalent n c q → Character n t q
+  combined : {a b r : ℕ} → Character n t a → Character n t b → Combination n a b r → Character n t r
+
+-- "A check mark is placed next to each number which is used in forming a new character."
+pub record Checked (n : ℕ) (t : List ℕ) (q : ℕ) : Type 0 where
+  pub other : ℕ
+  pub other-character : Character n t other
+  pub new : ℕ
+  pub combination : Combination n q other new
+
+-- "The unchecked characters, which have not entered into any combinations, represent the prime implicants."
+pub record PrimeImplicant (n : ℕ) (t : List ℕ) (q : ℕ) : Type 0 where
+  pub character : Character n t q
+  pub unchecked : Checked n t q → ⊥
+
+-- ---- section 4: prime implicant tables
+
+-- "Each row of the prime implicant table represents a prime implicant.": that these are the prime implicants is `rows` below
+abbrev pub tableRows : ℕ → List ℕ → List ℕ
+tableRows n t = primesOf n t
+
+-- "Each column [..] corresponds to a row of the table of combinations for which the transmission is to have the value one."
+-- Section 10: "columns corresponding to the d-terms should not be included".
+pub record Column (n : ℕ) (t : List ℕ) (c : ℕ) : Type 0 where
+  pub row : c < 2 ^ n
+  pub one : T (onSet t c)
+
+-- "If a prime implicant equals "one" for a given row of the table of combinations, a cross is placed at the intersection"
+abbrev pub cross : ℕ → ℕ → ℕ → Bool
+cross n c q = cubeMatches n q c
+
+-- the crosses of a column
+abbrev pub crosses : ℕ → List ℕ → ℕ → ℕ
+crosses n t c = count (cross n c) (tableRows n t)
+
+-- "place an asterisk next to each row which contains the sole entry of any column"
+pub record SingleAsterisk (n : ℕ) (t : List ℕ) (q : ℕ) : Type 0 where
+  pub row : PrimeImplicant n t q
+  pub column : ℕ
+  pub is-column : Column n t column
+  pub entry : T (cross n column q)
+  pub sole : crosses n t column ≡ 1
+
+-- ---- documents 000 and 01 agree, whatever the width and the table
+
+pub record Agreement (n : ℕ) (t : List ℕ) : Type 0 where
+  -- it does not matter which of the two characters is named first
+  pub either-first : (a b r : ℕ) → Combination n a b r → Combination n b a r
+  -- the characters are the implicants
+  pub characters : (q : ℕ) → Character n t q ↔ ((q < 3 ^ n) × T (implicant n t q))
+  -- demand 2: "exactly the prime implicants of McCluskey's 1956 paper"
+  pub primes : (q : ℕ) → q < 3 ^ n → T (prime n t q) ↔ PrimeImplicant n t q
+  -- "and the essential ones exactly his"
+  pub essentials : (q : ℕ) → q < 3 ^ n → T (essential n t q) ↔ SingleAsterisk n t q
+  -- so the primes listed are the rows of his table, and the essentials listed its single asterisk rows
+  pub rows : Lists (tableRows n t) (PrimeImplicant n t)
+  pub single-asterisks : Lists (essentialsOf n t) (SingleAsterisk n t)
