@@ -100,12 +100,14 @@ module _ (cov : ℕ → ℕ → Type 0) where
   -- an inequality divided by d and rounded up
   pub divided : {w a : ℕ → ℕ} {A U : ℕ → Type 0} {k : ℕ} (d : ℕ) → 0 < d → ((i : ℕ) → A i → w i ≤ d * a i) → AtLeast cov w A U k
       → AtLeast cov a A U ((k + (d - 1)) / d)
-  divided {w} {a} {k = k} d pos f b = record { bound = λ L l s. round (weight a L)
-      (omega (arith, b .bound L l s, weight-le f L l, weight-times d a L)) }
+  divided {w} {a} {k = k} d pos f b = record {
+    bound = λ L l s. round (weight a L)
+        (omega (arith, b .bound L l s, weight-le f L l, weight-times d a L));
+  }
     where
       round : (m : ℕ) → k ≤ d * m → (k + (d - 1)) / d ≤ m
       round m h = let e : k + (d - 1) < suc m * d = omega arith in
-        let g : (k + (d - 1)) / d < suc m = div-lt-iff-lt-mul pos .1 e in omega arith
+          let g : (k + (d - 1)) / d < suc m = div-lt-iff-lt-mul pos .1 e in omega arith
 
   -- an inequality times d
   pub multiplied : {w a : ℕ → ℕ} {A U : ℕ → Type 0} {k : ℕ} (d : ℕ) → ((i : ℕ) → A i → d * a i ≤ w i) → AtLeast cov a A U k → AtLeast cov w A U (d * k)
@@ -131,9 +133,11 @@ module _ (cov : ℕ → ℕ → Type 0) where
         again : Within A′ L ⊎ Without L → x ≡ r → Without (x ∷ L)
         again (inl m) e = (L, m, omega (arith, ap w e), λ c h. ⊎-elim (λ y. inl (subst (λ (i : ℕ). cov i c) e y)) inr h)
         again (inr m) e = (m .0, m .1, omega (arith, m .2), λ c h. ⊎-elim (λ y. inl (subst (λ (i : ℕ). cov i c) e y)) (m .3 c) h)
+
         keep : Within A′ L ⊎ Without L → (x ≡ r → ⊥) → Within A′ (x ∷ L) ⊎ Without (x ∷ L)
         keep (inl m) n = inl (rest x (l .0) n, m)
         keep (inr m) n = inr (x ∷ m .0, (rest x (l .0) n, m .1), omega (arith, m .2), λ c h. ⊎-elim (λ y. inr (inl y)) (λ y. ⊎-elim inl (λ z. inr (inr z)) (m .3 c y)) h)
+
         go : Dec (x ≡ r) → Within A′ L ⊎ Without L → Within A′ (x ∷ L) ⊎ Without (x ∷ L)
         go (yes e) m = inr (again m e)
         go (no n) m = keep m n
@@ -158,5 +162,10 @@ module _ (cov : ℕ → ℕ → Type 0) where
         go : (L : List ℕ) → Covers cov U L → Within A′ L ⊎ Without L → k ≤ weight w L
         go L s (inl m) = b .bound L m s
         go L s (inr m) =
-            omega (arith, m .2, weight-append w S (m .0), b .bound (S ++ m .0) (within-append A′ S (m .0) live (m .1))
-              (λ c u. hits-append S (m .0) c (⊎-elim (λ y. inl (for c u y)) inr (m .3 c (s c u)))))
+            omega (
+              arith,
+              m .2,
+              weight-append w S (m .0),
+              b .bound (S ++ m .0) (within-append A′ S (m .0) live (m .1))
+                  (λ c u. hits-append S (m .0) c (⊎-elim (λ y. inl (for c u y)) inr (m .3 c (s c u)))),
+            )

@@ -34,18 +34,20 @@ module _ (cov : ℕ → ℕ → Type 0) (w : ℕ → ℕ) (n : ℕ) where
   -- after a reduction
   pub answer-reduced : {A A′ U U′ : ℕ → Type 0} {t p q : ℕ → Bool} {a k limit room : ℕ} → Reduced cov w n A U A′ U′ t a → room + a ≡ limit
       → ((i : ℕ) → q i ≡ (t i || p i)) → Answers cov w n A′ U′ room k p → Answers cov w n A U limit (a + k) q
-  answer-reduced {p = p} {k = k} r e s f = record
-    { low = r .low k (f .low)
-    ; within = omega (arith, f .within)
-    ; cover = λ l. cover-same cov w n s refl (r .cover p k (f .cover (omega arith))) }
+  answer-reduced {p = p} {k = k} r e s f = record {
+    low = r .low k (f .low);
+    within = omega (arith, f .within);
+    cover = λ l. cover-same cov w n s refl (r .cover p k (f .cover (omega arith)));
+  }
 
   -- after rows were left out that no cover below the limit needs
   pub answer-fewer : {A A′ U : ℕ → Type 0} {limit k : ℕ} {p : ℕ → Bool} → ((i : ℕ) → A′ i → A i) → ((x : ℕ) → x ≤ limit → AtLeast cov w A′ U x → AtLeast cov w A U x)
       → Answers cov w n A′ U limit k p → Answers cov w n A U limit k p
-  answer-fewer {k = k} fewer low f = record
-    { low = low k (f .within) (f .low)
-    ; within = f .within
-    ; cover = λ l. let x = f .cover l in record { live = λ i y. fewer i (x .live i y); covers = x .covers; weighs = x .weighs } }
+  answer-fewer {k = k} fewer low f = record {
+    low = low k (f .within) (f .low);
+    within = f .within;
+    cover = λ l. let x = f .cover l in record { live = λ i y. fewer i (x .live i y); covers = x .covers; weighs = x .weighs };
+  }
 
   -- ---- the rows of a choice
 
@@ -64,21 +66,23 @@ module _ (cov : ℕ → ℕ → Type 0) (w : ℕ → ℕ) (n : ℕ) where
 
     -- with r no cover is lighter than the incumbent
     pub tried-kept : AtLeast cov w R′ U′ k₁ → k ≤ k₁ + w r → Tried cov w n A U limit R′ k p
-    tried-kept b l = record
-      { fewer = λ i y. tried .fewer i (fewer i y)
-      ; low = λ x m y. after x b m (omega arith) y
-      ; within = tried .within
-      ; cover = tried .cover }
+    tried-kept b l = record {
+      fewer = λ i y. tried .fewer i (fewer i y);
+      low = λ x m y. after x b m (omega arith) y;
+      within = tried .within;
+      cover = tried .cover;
+    }
 
     -- r and the cover of what it leaves is the new incumbent
     pub tried-better : {room : ℕ} {p₁ q : ℕ → Bool} → r < n → ((c : ℕ) → U c → cov r c ⊎ U′ c) → room ≡ k - w r → ((i : ℕ) → q i ≡ (eqb i r || p₁ i))
         → k₁ + w r < k → Answers cov w n R′ U′ room k₁ p₁ → Tried cov w n A U limit R′ (k₁ + w r) q
-    tried-better h right e s l f = record
-      { fewer = λ i y. tried .fewer i (fewer i y)
-      ; low = λ x m y. after x (f .low) (omega arith) (omega arith) y
-      ; within = omega (arith, tried .within)
-      ; cover = λ m. cover-same cov w n s (omega arith)
-          (cover-with cov w n r h (tried .fewer r is) out (λ i y. tried .fewer i (fewer i y)) right (f .cover (omega arith))) }
+    tried-better h right e s l f = record {
+      fewer = λ i y. tried .fewer i (fewer i y);
+      low = λ x m y. after x (f .low) (omega arith) (omega arith) y;
+      within = omega (arith, tried .within);
+      cover = λ m. cover-same cov w n s (omega arith)
+          (cover-with cov w n r h (tried .fewer r is) out (λ i y. tried .fewer i (fewer i y)) right (f .cover (omega arith)));
+    }
 
 -- ---- a set as a selection
 
@@ -112,16 +116,23 @@ rows-weight w (suc n) p = omega (arith, weight-append w (rowsOf n p) (cond (p n)
 -- An answer is a minimum cover, where the rows are those below n, each column has one, and all of them together weigh less than the limit.
 pub minimum : (cov : ℕ → ℕ → Type 0) (w : ℕ → ℕ) (n m : ℕ) {A U : ℕ → Type 0} {limit k : ℕ} {p : ℕ → Bool} → ((i : ℕ) → A i → i < n) → ((i : ℕ) → i < n → A i)
     → ((c : ℕ) → U c → (i : ℕ) × (i < n) × cov i c) → ((i : ℕ) → w i ≤ m) → n * m < limit → Answers cov w n A U limit k p → Minimum cov w A U (rowsOf n p) k
-minimum cov w n m {A} {U} {limit} {k} {p} below all row most l f = record
-  { within = rows-within A n p (found .live)
-  ; covers = λ c u. let t = found .covers c u in rows-hit cov c n p (t .0) (below (t .0) (found .live (t .0) (t .1))) (t .1) (t .2)
-  ; weighs = rows-weight w n p ∙ found .weighs
-  ; least = f .low .bound }
+minimum cov w n m {A} {U} {limit} {k} {p} below all row most l f = record {
+  within = rows-within A n p (found .live);
+  covers = λ c u. let t = found .covers c u in rows-hit cov c n p (t .0) (below (t .0) (found .live (t .0) (t .1))) (t .1) (t .2);
+  weighs = rows-weight w n p ∙ found .weighs;
+  least = f .low .bound;
+}
   where
     every : ℕ → Bool
     every i = ltb i n
+
     light : weight w (rowsOf n every) ≤ n * m
     light = omega (arith, rows-weight w n every, sum-most n m {f = λ i. pick (every i) (w i)} (λ i. omega (arith, pick-le (every i) (w i), most i)))
+
     found : Cover cov w n A U p k
-    found = f .cover (omega (arith, light, f .low .bound (rowsOf n every) (rows-within A n every (λ i e. all i (ltb-true i n e)))
-      (λ c u. let t = row c u in rows-hit cov c n every (t .0) (t .1) (lt-ltb (t .0) n (t .1)) (t .2))))
+    found = f .cover (omega (
+      arith,
+      light,
+      f .low .bound (rowsOf n every) (rows-within A n every (λ i e. all i (ltb-true i n e)))
+          (λ c u. let t = row c u in rows-hit cov c n every (t .0) (t .1) (lt-ltb (t .0) n (t .1)) (t .2)),
+    ))

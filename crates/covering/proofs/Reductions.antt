@@ -36,10 +36,11 @@ module _ (cov : ℕ → ℕ → Type 0) (w : ℕ → ℕ) (n : ℕ) where
 
   -- the same set and the same weight, said in other words
   pub cover-same : {A U : ℕ → Type 0} {p q : ℕ → Bool} {k l : ℕ} → ((i : ℕ) → q i ≡ p i) → k ≡ l → Cover cov w n A U p k → Cover cov w n A U q l
-  cover-same h e x = record
-    { live = λ i y. x .live i (sym (h i) ∙ y)
-    ; covers = λ c u. let t = x .covers c u in (t .0, h (t .0) ∙ t .1, t .2)
-    ; weighs = sum-same n (λ i l. ap (λ (b : Bool). pick b (w i)) (h i)) ∙ x .weighs ∙ e }
+  cover-same h e x = record {
+    live = λ i y. x .live i (sym (h i) ∙ y);
+    covers = λ c u. let t = x .covers c u in (t .0, h (t .0) ∙ t .1, t .2);
+    weighs = sum-same n (λ i l. ap (λ (b : Bool). pick b (w i)) (h i)) ∙ x .weighs ∙ e;
+  }
 
   -- no column is left
   pub cover-nothing : {A U : ℕ → Type 0} → ((c : ℕ) → U c → ⊥) → Cover cov w n A U none 0
@@ -49,10 +50,11 @@ module _ (cov : ℕ → ℕ → Type 0) (w : ℕ → ℕ) (n : ℕ) where
   -- the row r with a cover of what it leaves
   pub cover-with : {A A′ U U′ : ℕ → Type 0} {p : ℕ → Bool} {k : ℕ} (r : ℕ) → r < n → A r → (A′ r → ⊥) → ((i : ℕ) → A′ i → A i)
       → ((c : ℕ) → U c → cov r c ⊎ U′ c) → Cover cov w n A′ U′ p k → Cover cov w n A U (only r ∪ p) (w r + k)
-  cover-with {A} {p = p} r l is out fewer left x = record
-    { live = λ i y. ⊎-elim (λ e. subst A (sym (eqb-true i r e)) is) (λ z. fewer i (x .live i z)) (or-cases (eqb i r) (p i) y)
-    ; covers = λ c u. ⊎-elim (λ y. (r, or-left (p r) (eq-eqb r r refl), y)) (λ v. let t = x .covers c v in (t .0, or-right (eqb (t .0) r) (t .1), t .2)) (left c u)
-    ; weighs = sum-with n r w p (only r ∪ p) l (not-set (p r) (λ y. out (x .live r y))) (λ i. refl) ∙ ap (λ (y : ℕ). w r + y) (x .weighs) }
+  cover-with {A} {p = p} r l is out fewer left x = record {
+    live = λ i y. ⊎-elim (λ e. subst A (sym (eqb-true i r e)) is) (λ z. fewer i (x .live i z)) (or-cases (eqb i r) (p i) y);
+    covers = λ c u. ⊎-elim (λ y. (r, or-left (p r) (eq-eqb r r refl), y)) (λ v. let t = x .covers c v in (t .0, or-right (eqb (t .0) r) (t .1), t .2)) (left c u);
+    weighs = sum-with n r w p (only r ∪ p) l (not-set (p r) (λ y. out (x .live r y))) (λ i. refl) ∙ ap (λ (y : ℕ). w r + y) (x .weighs);
+  }
 
   -- ---- reductions
 
@@ -61,10 +63,11 @@ module _ (cov : ℕ → ℕ → Type 0) (w : ℕ → ℕ) (n : ℕ) where
 
   pub then : {A B C U U′ U″ : ℕ → Type 0} {s t u : ℕ → Bool} {a b : ℕ} → ((i : ℕ) → u i ≡ (s i || t i))
       → Reduced cov w n A U B U′ s a → Reduced cov w n B U′ C U″ t b → Reduced cov w n A U C U″ u (a + b)
-  then {s = s} {t = t} e f g = record
-    { fewer = λ i y. f .fewer i (g .fewer i y)
-    ; low = λ k y. smaller cov (omega arith) (f .low _ (g .low k y))
-    ; cover = λ p k y. cover-same (λ i. ap (λ (x : Bool). x || p i) (e i) ∙ or-assoc (s i) (t i) (p i)) (omega arith) (f .cover _ _ (g .cover p k y)) }
+  then {s = s} {t = t} e f g = record {
+    fewer = λ i y. f .fewer i (g .fewer i y);
+    low = λ k y. smaller cov (omega arith) (f .low _ (g .low k y));
+    cover = λ p k y. cover-same (λ i. ap (λ (x : Bool). x || p i) (e i) ∙ or-assoc (s i) (t i) (p i)) (omega arith) (f .cover _ _ (g .cover p k y));
+  }
 
   -- a step in which nothing is taken
   pub then-kept : {A B C U U′ U″ : ℕ → Type 0} {s : ℕ → Bool} {a : ℕ} → Reduced cov w n A U B U′ s a → Reduced cov w n B U′ C U″ none 0 → Reduced cov w n A U C U″ s a
@@ -73,18 +76,20 @@ module _ (cov : ℕ → ℕ → Type 0) (w : ℕ → ℕ) (n : ℕ) where
   -- A row gives way to a selection that weighs no more and covers its columns of U.
   pub drop-row : {A A′ U : ℕ → Type 0} (r : ℕ) (S : List ℕ) → ((i : ℕ) → A′ i → A i) → ((i : ℕ) → A i → (i ≡ r → ⊥) → A′ i)
       → Within A′ S → weight w S ≤ w r → ((c : ℕ) → U c → cov r c → Hits cov S c) → Reduced cov w n A U A′ U none 0
-  drop-row r S fewer rest live light for = record
-    { fewer = fewer
-    ; low = λ k b. smaller cov (omega arith) (dominated cov w r rest S live light for b)
-    ; cover = λ p k x. record { live = λ i y. fewer i (x .live i y); covers = x .covers; weighs = x .weighs ∙ omega arith } }
+  drop-row r S fewer rest live light for = record {
+    fewer = fewer;
+    low = λ k b. smaller cov (omega arith) (dominated cov w r rest S live light for b);
+    cover = λ p k x. record { live = λ i y. fewer i (x .live i y); covers = x .covers; weighs = x .weighs ∙ omega arith };
+  }
 
   -- Each column of U is one of U′, or whatever row covers some column of U′ covers it too.
   pub drop-columns : {A U U′ : ℕ → Type 0} → ((c : ℕ) → U′ c → U c)
       → ((c : ℕ) → U c → U′ c ⊎ ((d : ℕ) × U′ d × ((i : ℕ) → A i → cov i d → cov i c))) → Reduced cov w n A U A U′ none 0
-  drop-columns {A} {U} {U′} sub along = record
-    { fewer = λ i y. y
-    ; low = λ k b. narrower cov (λ i y. y) sub (omega arith) b
-    ; cover = λ p k x. record { live = x .live; covers = λ c u. by p k x c (along c u); weighs = x .weighs ∙ omega arith } }
+  drop-columns {A} {U} {U′} sub along = record {
+    fewer = λ i y. y;
+    low = λ k b. narrower cov (λ i y. y) sub (omega arith) b;
+    cover = λ p k x. record { live = x .live; covers = λ c u. by p k x c (along c u); weighs = x .weighs ∙ omega arith };
+  }
     where
       by : (p : ℕ → Bool) (k : ℕ) → Cover cov w n A U′ p k → (c : ℕ) → U′ c ⊎ ((d : ℕ) × U′ d × ((i : ℕ) → A i → cov i d → cov i c)) → (i : ℕ) × (p i ≡ true) × cov i c
       by p k x c (inl v) = x .covers c v
@@ -94,7 +99,8 @@ module _ (cov : ℕ → ℕ → Type 0) (w : ℕ → ℕ) (n : ℕ) where
   pub take-row : {A A′ U U′ : ℕ → Type 0} (r c : ℕ) → r < n → A r → (A′ r → ⊥) → ((i : ℕ) → A′ i → A i) → ((i : ℕ) → A i → (i ≡ r → ⊥) → A′ i)
       → U c → ((i : ℕ) → A i → cov i c → i ≡ r) → ((x : ℕ) → U′ x → U x × (cov r x → ⊥)) → ((x : ℕ) → U x → cov r x ⊎ U′ x)
       → Reduced cov w n A U A′ U′ (only r) (w r)
-  take-row {A′ = A′} r c l is out fewer rest u one left right = record
-    { fewer = fewer
-    ; low = λ k b. branch cov w r rest (w r + k) left b (uncoverable cov c (w r + k) u (λ i y z. out (subst A′ (one i (fewer i y) z) y))) (omega arith) (omega arith)
-    ; cover = λ p k x. cover-with r l is out fewer right x }
+  take-row {A′ = A′} r c l is out fewer rest u one left right = record {
+    fewer = fewer;
+    low = λ k b. branch cov w r rest (w r + k) left b (uncoverable cov c (w r + k) u (λ i y z. out (subst A′ (one i (fewer i y) z) y))) (omega arith) (omega arith);
+    cover = λ p k x. cover-with r l is out fewer right x;
+  }

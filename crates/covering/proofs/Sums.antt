@@ -68,6 +68,10 @@ pick-mono false b x h = omega arith
 pub sum-with : (n r : ℕ) (w : ℕ → ℕ) (p q : ℕ → Bool) → r < n → p r ≡ false → ((i : ℕ) → q i ≡ (eqb i r || p i))
     → sum n (λ i. pick (q i) (w i)) ≡ w r + sum n (λ i. pick (p i) (w i))
 sum-with n r w p q l out e =
-    omega (arith, sum-change n r {f = λ i. pick (q i) (w i)} {g = λ i. pick (p i) (w i)} l
-      (λ i d. ap (λ (b : Bool). pick b (w i)) (e i ∙ ap (λ (b : Bool). b || p i) (ne-eqb i r d))),
-      pick-false (w r) out, pick-true (w r) (e r ∙ ap (λ (b : Bool). b || p r) (eq-eqb r r refl)))
+    omega (
+      arith,
+      sum-change n r {f = λ i. pick (q i) (w i)} {g = λ i. pick (p i) (w i)} l
+          (λ i d. ap (λ (b : Bool). pick b (w i)) (e i ∙ ap (λ (b : Bool). b || p i) (ne-eqb i r d))),
+      pick-false (w r) out,
+      pick-true (w r) (e r ∙ ap (λ (b : Bool). b || p r) (eq-eqb r r refl)),
+    )
