@@ -1,0 +1,3 @@
+-- The laws of sets of columns and of rows.
+pub mod Bits
+pub mod Members
