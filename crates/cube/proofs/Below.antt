@@ -181,7 +181,7 @@ count-append g (x ∷ xs) ys = omega (arith, count-append g xs ys)
 
 module _ (f g : ℕ → Bool) where
   -- of those that pass one test, so many pass another as pass both
-  count-those : (m : ℕ) → count g (those m f) ≡ length (those m (λ i. f i && g i))
+  pub count-those : (m : ℕ) → count g (those m f) ≡ length (those m (λ i. f i && g i))
   unfolding count those
   count-those zero = refl
   count-those (suc m) = omega (arith, count-append g (those m f) (cond (f m) (m ∷ []) []), count-those m, count-suc (λ i. f i && g i) m, last (f m))

@@ -140,19 +140,29 @@ pub fn list_marked(m: usize, marks: &[u8], out: &mut [u16]) -> usize
     count
 }
 
+// What a call refuses that lists cubes into places, 3^n of them at least: 1, 2, 3, 4, or 0 where none of these holds.
+pub fn listing_refusal(n: usize, table: &[u8], places: usize) -> u8
+    ensures { λ r. ⌜ r ≡ primesRefuses n (now (table .entry)) places ⌝ }
+{
+    let k = table_refusal(n, table);
+    if k != 0 {
+        return k;
+    }
+    if places < spelling::cubes(n) {
+        return 4;
+    }
+    0
+}
+
 pub fn primes(n: usize, table: &[u8], out: &mut [u16]) -> Counted
     ensures { λ r. ⌜ Listed (primesRefuses n (now (table .entry)) (length (now (out .entry)))) (primesOf n (now (table .entry)))
         (now (out .entry)) (now (out .exit)) r ⌝ }
 {
-    let k = table_refusal(n, table);
+    let k = listing_refusal(n, table, out.len());
     if k != 0 {
         return Counted::Refused(k);
     }
-    let cubes = spelling::cubes(n);
-    if out.len() < cubes {
-        return Counted::Refused(4);
-    }
     let mut marks = [0u8; 729];
     mark_primes(n, table, &mut marks);
-    Counted::Count(list_marked(cubes, &marks, out))
+    Counted::Count(list_marked(spelling::cubes(n), &marks, out))
 }
