@@ -12,3 +12,5 @@ pub mod Cases
 pub mod Lent
 pub mod Calls
 pub mod McCluskey
+pub mod Covers
+pub mod Minimum
