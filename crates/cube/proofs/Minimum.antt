@@ -102,8 +102,15 @@ module _ (n : ℕ) (t : List ℕ) where
     unfolding rival coverLiterals
     not-wider =
         ⊎-elim (λ x. omega (arith, length-append before (r ∷ after), length-append before (rowOf n p ∷ after)))
-        (λ x. omega (arith, x .1, literals-append n before (r ∷ after), literals-append n before (rowOf n p ∷ after),
-          row-of-literals n p l, row-literals n (r .value) (r .care), wider-fewer n t (numberOf n r) p w))
+        (λ x. omega (
+          arith,
+          x .1,
+          literals-append n before (r ∷ after),
+          literals-append n before (rowOf n p ∷ after),
+          row-of-literals n p l,
+          row-literals n (r .value) (r .care),
+          wider-fewer n t (numberOf n r) p w,
+        ))
         (m .least rival rival-formed rival-right)
 
   prime-row : (before after : Cover) (r : Row) → Minimum n t (before ++ (r ∷ after)) → T (implicant n t (numberOf n r)) → T (prime n t (numberOf n r))

@@ -12,6 +12,7 @@ ghost use Prim.Native.Nat.{ℕ, _+_, _<_, _≤_, _^_};
 ghost use lib.Bits.{bitAnd};
 ghost use lib.Dec.{eqb};
 ghost use lib.ListN.{length, getD};
+ghost use lib.Seq.{sets};
 ghost use Rattle.cube.specs.Words.{prime, essential, essentialsOf};
 ghost use Rattle.cube.specs.Calls.{widest, Listed};
 ghost use Rattle.primes.specs.Primes.{primesRefuses, Flagged, Marks, isMarked};
@@ -98,6 +99,17 @@ fn mark_essentials(n: usize, table: &[u8], marks: &mut [u8])
     mark_holders(&words, cubes, sole, marks);
 }
 
+// Lists the essential primes of a table of n variables, ascending, and returns their number.
+fn list_essentials(n: usize, table: &[u8], out: &mut [u16]) -> usize
+    requires { ⌜ (n ≤ widest) × (length (now table) ≡ 2 ^ n) × (3 ^ n ≤ length (now out)) ⌝ }
+    ensures { λ r. ⌜ (r ≡ length (essentialsOf n (now (table .entry))))
+        × (now (out .exit) ≡ sets (now (out .entry)) 0 (essentialsOf n (now (table .entry)))) ⌝ }
+{
+    let mut marks = [0u8; 729];
+    mark_essentials(n, table, &mut marks);
+    primes::list_marked(n, &marks, out)
+}
+
 pub fn essentials(n: usize, table: &[u8], out: &mut [u16]) -> Counted
     ensures { λ r. ⌜ Listed (primesRefuses n (now (table .entry)) (length (now (out .entry)))) (essentialsOf n (now (table .entry)))
         (now (out .entry)) (now (out .exit)) r ⌝ }
@@ -106,7 +118,5 @@ pub fn essentials(n: usize, table: &[u8], out: &mut [u16]) -> Counted
     if k != 0 {
         return Counted::Refused(k);
     }
-    let mut marks = [0u8; 729];
-    mark_essentials(n, table, &mut marks);
-    Counted::Count(primes::list_marked(spelling::cubes(n), &marks, out))
+    Counted::Count(list_essentials(n, table, out))
 }

@@ -1,6 +1,6 @@
 -- How a call on a table that lists cubes ends: it refuses with what the table is refused for, then with 4, and lists them otherwise. Primes,
 -- Essentials and Chart are such calls. Assumes nothing.
-use mathlib.Core.Path.{_≡_, refl, sym, ap, _∙_, subst}
+use mathlib.Core.Path.{_≡_, refl, sym, ap, _∙_}
 use mathlib.Core.Logic.{_⊎_, inl, inr}
 use mathlib.Core.Bool.{Bool}
 use mathlib.Core.List.{List, [], _∷_}
@@ -14,7 +14,7 @@ use Rattle.cube.specs.Below.{those}
 use Rattle.cube.specs.Calls.{short, Condition, when, firstOf, tableConditions, Listed}
 use Rattle.cube.specs.declared.Counted.the-variants.{Count, Refused}
 use Rattle.cube.proofs.Bools.{lt-or-le}
-use Rattle.cube.proofs.Below.{those-same, those-length}
+use Rattle.cube.proofs.Below.{those-same}
 use Rattle.cube.proofs.Calls.{Accepted, accepted, first-holds, first-passes, table-passes, table-refuses, listed-refused, listed-done}
 use Rattle.primes.specs.Primes.{primesRefuses, Marks, isMarked}
 use Rattle.primes.proofs.Flags.{marked-is}
@@ -50,17 +50,17 @@ listable n t places e = go (firstOf (tableConditions n t)) refl
     go zero a = record { table = accepted n t a; enough = enough-places a (lt-or-le places (3 ^ n)) }
     go (suc k) a = absurd (let z : suc k ≡ 0 = refuses-table n t places (suc k) (sym a) (λ x. omega arith) ∙ e in omega arith)
 
--- a call that refuses, and one that lists the cubes marked as passing f
+-- a call that refuses, and one that writes the list
 module _ (n : ℕ) (t list old : List ℕ) where
   pub listing-refused : (k : ℕ) → k ≡ primesRefuses n t (length old) → (k ≡ 0 → ⊥) → Listed (primesRefuses n t (length old)) list old old (Refused k)
   listing-refused zero e h = absurd (h refl)
   listing-refused (suc k) e h = listed-refused k (sym e)
 
-  pub lists-marked : (f : ℕ → Bool) (m : ℕ) (marks new : List ℕ) (x : ℕ) → primesRefuses n t (length old) ≡ 0 → list ≡ those (3 ^ n) f → m ≡ 3 ^ n
-      → Marks f marks (3 ^ n) → x ≡ length (those m (isMarked marks)) → new ≡ sets old 0 (those m (isMarked marks))
+  pub listing-done : {new : List ℕ} {x : ℕ} → primesRefuses n t (length old) ≡ 0 → x ≡ length list → length list ≤ 3 ^ n → new ≡ sets old 0 list
       → Listed (primesRefuses n t (length old)) list old new (Count x)
-  lists-marked f m marks new x none list-is m-is k x-is new-is =
-      let same : those m (isMarked marks) ≡ list =
-      ap (λ (i : ℕ). those i (isMarked marks)) m-is ∙ those-same (3 ^ n) (isMarked marks) f (λ q l. marked-is f marks (3 ^ n) q k l) ∙ sym list-is in
-      listed-done none (x-is ∙ ap length same) (new-is ∙ ap (sets old 0) same)
-      (le-trans (subst (λ (l : List ℕ). length l ≤ 3 ^ n) (sym list-is) (those-length f (3 ^ n))) (listable n t (length old) none .enough))
+  listing-done none x-is few new-is = listed-done none x-is new-is (le-trans few (listable n t (length old) none .enough))
+
+-- the marked cubes are those that pass
+pub marked-list : (f : ℕ → Bool) (marks : List ℕ) (m n : ℕ) → m ≡ 3 ^ n → Marks f marks (3 ^ n) → those m (isMarked marks) ≡ those (3 ^ n) f
+marked-list f marks m n m-is k =
+    ap (λ (i : ℕ). those i (isMarked marks)) m-is ∙ those-same (3 ^ n) (isMarked marks) f (λ q l. marked-is f marks (3 ^ n) q k l)
