@@ -7,7 +7,7 @@ use Prim.Native.Nat.{ℕ, suc, _+_, _<_, _≤_}
 use native.Mathlib.Nat.{zero-add, add-zero, add-suc, suc-add}
 use native.Mathlib.Numerals.{add-one}
 use native.Mathlib.Omega.{arith}
-use lib.ListN.{length, length-append, set, drop, getD}
+use lib.ListN.{length, length-append, set, drop, getD, List·getD-append}
 use lib.Seq.{sets, length-sets, sets-eq, getD-set-same, getD-set-other}
 use borrow.Author.Count.{below-more}
 use Rattle.cube.specs.Below.{those}
@@ -22,6 +22,9 @@ sets-append l i (x ∷ xs) ys =
 -- a run of stores from the front: the list stands there, and behind it what was
 pub sets-front : (xs old : List ℕ) → length xs ≤ length old → sets old 0 xs ≡ xs ++ drop (length xs) old
 sets-front xs old h = sets-eq xs old 0 (omega arith) ∙ ap (λ (i : ℕ). xs ++ drop i old) (zero-add (length xs))
+
+pub sets-at : (xs old : List ℕ) (i : ℕ) → length xs ≤ length old → i < length xs → getD (sets old 0 xs) i 0 ≡ getD xs i 0
+sets-at xs old i h l = ap (λ (l : List ℕ). getD l i 0) (sets-front xs old h) ∙ List·getD-append xs (drop (length xs) old) 0 i l
 
 -- ---- the numbers that pass, stored one by one
 
