@@ -47,9 +47,13 @@ fill-words-requires c κs =
     let l = c .before .before .before .list-primes in
     let n = s .args .n in
     let t = s .args .table .now in
-    let most = few n t _ (l .last .1 .1 .0) (l .result) (s .pre .0) refl (l .ensures .0) (l .ensures .1) in
-    (s .pre .0, s .pre .1, subst⁻¹ (λ (i : ℕ). l .result ≤ i) (l .kept .1 .1 .0) most, most,
-    are-cubes n t _ (l .last .1 .1 .0) (l .result) (s .pre .0) refl (l .ensures .0) (l .ensures .1))
+    let most = few n t _ (l .last .1 .1 .0) (l .result) (s .pre .0) refl (l .ensures .0) (l .ensures .1) in (
+      s .pre .0,
+      s .pre .1,
+      subst⁻¹ (λ (i : ℕ). l .result ≤ i) (l .kept .1 .1 .0) most,
+      most,
+      are-cubes n t _ (l .last .1 .1 .0) (l .result) (s .pre .0) refl (l .ensures .0) (l .ensures .1),
+    )
 
 slice-aggregate-fill-literals : tie.Need-slice-aggregate-fill-literals
 slice-aggregate-fill-literals c = search needs
@@ -75,7 +79,7 @@ returns c =
       rows = l .ensures .0;
       cubes = held;
       words = λ i p. c .before .before .before .before .before .fill-words .ensures i p ∙ ap (columnsOf n t) (held i p);
-      literals = λ i p. c .before .fill-literals .ensures i p ∙ ap (cubeLiterals n) (held i p)
+      literals = λ i p. c .before .fill-literals .ensures i p ∙ ap (cubeLiterals n) (held i p);
     }
 
 pub build-spec : {M : Type 1} → statement M
