@@ -24,8 +24,8 @@ fn with_code(table: &[u8], value: usize, care: usize, c: usize, word: u64) -> u6
     word + (1u64 << c)
 }
 
-// The wanted codes that a row matches.
-fn row_columns(table: &[u8], value: usize, care: usize) -> u64
+// The wanted codes that a row matches: all of them for value 0 and care 0.
+pub fn row_columns(table: &[u8], value: usize, care: usize) -> u64
     requires { ⌜ length (now table) ≤ 64 ⌝ }
     ensures { λ r. ⌜ r ≡ wordOf (length (now (table .entry))) (rowColumn (now (table .entry)) value care) ⌝ }
 {

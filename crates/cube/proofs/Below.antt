@@ -160,6 +160,10 @@ module _ (f : ℕ → Bool) where
       ⊎-elim (λ e. subst⁻¹ (λ (i : ℕ). length (those i f) ≤ length (those (suc m) f)) e (omega arith))
       (λ k. omega (arith, count-suc m, count-more a m (le-of-suc-le-suc k))) (eq-or-lt-of-le l)
 
+  -- before one that passes there are fewer
+  pub count-found : (i m : ℕ) → i < m → f i ≡ true → length (those i f) < length (those m f)
+  count-found i m l e = omega (arith, count-suc i, ap flag e, count-more (suc i) m l)
+
   -- where one passes, two that pass are the same
   one-passes : (m i j : ℕ) → length (those m f) ≡ 1 → i < m → j < m → T (f i) → T (f j) → i ≡ j
   one-passes m i j e l k x y =

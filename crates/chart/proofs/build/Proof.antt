@@ -75,8 +75,14 @@ returns c =
     let n = s .args .n in
     let t = s .args .table .now in
     let held = at n t _ (l .last .1 .1 .0) (l .result) (s .pre .0) refl (l .ensures .0) (l .ensures .1) in
+    let most = few n t _ (l .last .1 .1 .0) (l .result) (s .pre .0) refl (l .ensures .0) (l .ensures .1) in
     record {
       rows = l .ensures .0;
+      places = (
+        subst⁻¹ (λ (i : ℕ). l .result ≤ i) (l .kept .1 .1 .0) most,
+        subst⁻¹ (λ (i : ℕ). l .result ≤ i) (c .before .before .before .before .before .fill-words .kept .1 .1 .1 .1 .0) most,
+        subst⁻¹ (λ (i : ℕ). l .result ≤ i) (c .before .fill-literals .kept .1 .1 .1 .0) most,
+      );
       cubes = held;
       words = λ i p. c .before .before .before .before .before .fill-words .ensures i p ∙ ap (columnsOf n t) (held i p);
       literals = λ i p. c .before .fill-literals .ensures i p ∙ ap (cubeLiterals n) (held i p);
