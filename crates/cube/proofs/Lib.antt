@@ -11,4 +11,5 @@ pub mod Independent
 pub mod Cases
 pub mod Lent
 pub mod Calls
+pub mod Lists
 pub mod McCluskey
