@@ -8,7 +8,7 @@ use lib.ListN.{length}
 use borrow.Author.Count.{below-more}
 use borrow.Author.Needs.{needs}
 use Rattle.cube.specs.Words.{formed, rowsOf}
-use Rattle.cube.specs.Calls.{widest, badRow}
+use Rattle.cube.specs.Calls.{badRow}
 use Rattle.cube.proofs.Below.{some-found, some-none}
 use Rattle.cube.proofs.Lists.{rowIn, bad-place}
 use Rattle.lists.proofs.bad_row.Statement.{statement}
@@ -22,14 +22,13 @@ module _ (n : ℕ) (vs ws : List ℕ) (e : length vs ≡ length ws) where
   missing f = sym (bad-place n vs ws e ∙ some-none (length vs) (λ i. not (formed n (rowIn vs ws i))) f)
 
 abbrev Inv-loop : tie.InvT-loop
-Inv-loop n values cares i₀ i =
-    (i ≤ length values) × (n ≤ widest) × (length values ≡ length cares) × ((k : ℕ) → k < i → not (formed n (rowIn values cares k)) ≡ false)
+Inv-loop n values cares i₀ i = (i ≤ length values) × ((k : ℕ) → k < i → not (formed n (rowIn values cares k)) ≡ false)
 
 abbrev μ-loop : tie.MeasureT-loop
 μ-loop n values cares i₀ i = length values - i
 
 loop-holds : tie.Need-loop-holds Inv-loop μ-loop
-loop-holds c = (search needs, search needs, search needs, λ k l. absurd (omega arith))
+loop-holds c = (search needs, λ k l. absurd (omega arith))
 
 shared-slice-read-is-formed : tie.Need-shared-slice-read-is-formed Inv-loop μ-loop
 shared-slice-read-is-formed c = search needs
@@ -42,8 +41,8 @@ is-formed-requires c κs = search needs
 
 returns : tie.Need-returns Inv-loop μ-loop
 returns c =
-    let i = c .before .before .before .before .before .loop .inv in
-    found _ _ _ (i .2) _ (c .before .before .before .before .loop-test .taken) (ap not (sym (c .before .is-formed .ensures)) ∙ c .if1 .taken)
+    found _ _ _ (c .before .before .before .before .before .before .before .before .pre .1) _ (c .before .before .before .before .loop-test .taken)
+    (ap not (sym (c .before .is-formed .ensures)) ∙ c .if1 .taken)
 
 add-i : tie.Need-add-i Inv-loop μ-loop
 add-i c = search needs
@@ -53,11 +52,10 @@ loop-less c = search needs
 
 loop-again : tie.Need-loop-again Inv-loop μ-loop
 loop-again c =
-    let i = c .before .before .before .before .before .loop .inv in
-    (search needs, i .1, i .2, below-more _ _ (i .3) (ap not (sym (c .before .is-formed .ensures)) ∙ c .if1 .left))
+    (search needs, below-more _ _ (c .before .before .before .before .before .loop .inv .1) (ap not (sym (c .before .is-formed .ensures)) ∙ c .if1 .left))
 
 returns-2 : tie.Need-returns-2 Inv-loop μ-loop
-returns-2 c = missing _ _ _ (c .before .loop .inv .2) (λ k l. c .before .loop .inv .3 k (omega arith))
+returns-2 c = missing _ _ _ (c .before .before .before .before .pre .1) (λ k l. c .before .loop .inv .1 k (omega arith))
 
 pub bad-row-spec : {M : Type 1} → statement M
 bad-row-spec =

@@ -21,14 +21,13 @@ module _ (vs ws : List ℕ) (code : ℕ) (e : length vs ≡ length ws) where
   missing f = sym (matches-place vs ws code e ∙ some-none (length vs) (λ i. rowMatches (rowIn vs ws i) code) f)
 
 abbrev Inv-loop : tie.InvT-loop
-Inv-loop values cares code i₀ i =
-    (i ≤ length values) × (length values ≡ length cares) × ((k : ℕ) → k < i → rowMatches (rowIn values cares k) code ≡ false)
+Inv-loop values cares code i₀ i = (i ≤ length values) × ((k : ℕ) → k < i → rowMatches (rowIn values cares k) code ≡ false)
 
 abbrev μ-loop : tie.MeasureT-loop
 μ-loop values cares code i₀ i = length values - i
 
 loop-holds : tie.Need-loop-holds Inv-loop μ-loop
-loop-holds c = (search needs, search needs, λ k l. absurd (omega arith))
+loop-holds c = (search needs, λ k l. absurd (omega arith))
 
 shared-slice-read-row-matches : tie.Need-shared-slice-read-row-matches Inv-loop μ-loop
 shared-slice-read-row-matches c = search needs
@@ -41,8 +40,8 @@ row-matches-requires c κs = search needs
 
 returns : tie.Need-returns Inv-loop μ-loop
 returns c =
-    let i = c .before .before .before .before .before .loop .inv in
-    found _ _ _ (i .1) _ (c .before .before .before .before .loop-test .taken) (sym (c .before .row-matches .ensures) ∙ c .if1 .taken)
+    found _ _ _ (c .before .before .before .before .before .before .before .before .pre) _ (c .before .before .before .before .loop-test .taken)
+    (sym (c .before .row-matches .ensures) ∙ c .if1 .taken)
 
 add-i : tie.Need-add-i Inv-loop μ-loop
 add-i c = search needs
@@ -52,11 +51,10 @@ loop-less c = search needs
 
 loop-again : tie.Need-loop-again Inv-loop μ-loop
 loop-again c =
-    let i = c .before .before .before .before .before .loop .inv in
-    (search needs, i .1, below-more _ _ (i .2) (sym (c .before .row-matches .ensures) ∙ c .if1 .left))
+    (search needs, below-more _ _ (c .before .before .before .before .before .loop .inv .1) (sym (c .before .row-matches .ensures) ∙ c .if1 .left))
 
 returns-2 : tie.Need-returns-2 Inv-loop μ-loop
-returns-2 c = missing _ _ _ (c .before .loop .inv .1) (λ k l. c .before .loop .inv .2 k (omega arith))
+returns-2 c = missing _ _ _ (c .before .before .before .before .pre) (λ k l. c .before .loop .inv .1 k (omega arith))
 
 pub matches-spec : {M : Type 1} → statement M
 matches-spec =
