@@ -31,7 +31,7 @@ writeRefuses n vs ws places =
 -- ---- the steps
 
 -- a width and a list that are not refused, and a buffer with room for their file
-pub record Fits (n : ℕ) (vs ws out : List ℕ) : Type 0 where
+pub record Writable (n : ℕ) (vs ws out : List ℕ) : Type 0 where
   pub width : n ≤ widest
   pub equal : length vs ≡ length ws
   pub few : length vs ≤ mostRows

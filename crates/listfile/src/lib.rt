@@ -8,7 +8,7 @@ ghost use Prim.Native.Nat.{_≤_};
 ghost use lib.ListN.{length};
 ghost use lib.Seq.{sets};
 ghost use Rattle.cube.specs.Calls.{mostRows, Listed};
-ghost use Rattle.listfile.specs.Write.{header, headerLength, fileOf, fileLength, writeRefuses, Fits};
+ghost use Rattle.listfile.specs.Write.{header, headerLength, fileOf, fileLength, writeRefuses, Writable};
 
 // The bytes before the values.
 const HEADER: usize = 2;
@@ -32,7 +32,7 @@ fn put_header(n: u8, rows: u8, out: &mut [u8])
 
 // Writes the file: the values into a middle part of the buffer, the cares into the part right behind them.
 fn put_file(n: usize, values: &[u8], cares: &[u8], out: &mut [u8])
-    requires { ⌜ Fits n (now values) (now cares) (now out) ⌝ }
+    requires { ⌜ Writable n (now values) (now cares) (now out) ⌝ }
     ensures { λ _. ⌜ now (out .exit) ≡ sets (now (out .entry)) 0 (fileOf n (now (values .entry)) (now (cares .entry))) ⌝ }
 {
     let rows = values.len();

@@ -9,7 +9,7 @@ use lib.Seq.{sets, length-sets}
 use borrow.Author.Needs.{needs}
 use borrow.Rule.Slice.PartMut.{midOf, putMid}
 use Rattle.cube.proofs.Lent.{sets-append, put-copied}
-use Rattle.listfile.specs.Write.{header, headerLength, fileOf, Fits}
+use Rattle.listfile.specs.Write.{header, headerLength, fileOf, Writable}
 use Rattle.listfile.proofs.put_file.Statement.{statement}
 use Rattle.listfile.proofs.put_file.Tie as tie
 
@@ -24,7 +24,7 @@ end vs = behind vs + length vs
 abbrev Copied : ℕ → ℕ → List ℕ → List ℕ → List ℕ → Type 0
 Copied a e buffer src part = part ≡ take (length src) src ++ drop (length src) (midOf a (e - a) buffer)
 
-module _ (n : ℕ) (vs ws old : List ℕ) (f : Fits n vs ws old) where
+module _ (n : ℕ) (vs ws old : List ℕ) (f : Writable n vs ws old) where
   module _ (begun part : List ℕ) (begun-is : begun ≡ sets old 0 (header n (length vs))) (copied : Copied headerLength (behind vs) begun vs part) where
     with-values : putMid headerLength (behind vs - headerLength) begun part ≡ sets old 0 (header n (length vs) ++ vs)
     with-values =

@@ -13,7 +13,7 @@ use Rattle.cube.specs.declared.Counted.{Counted}
 use Rattle.cube.specs.declared.Counted.the-variants.{Count, Refused}
 use Rattle.cube.proofs.Calls.{width-to, first-holds, first-passes, conditions-refuse, conditions-pass, AcceptedList, accepted-list, listed-refused, listed-done}
 use Rattle.cube.proofs.Lists.{rows-length}
-use Rattle.listfile.specs.Write.{fileOf, fileLength, writeRefuses, Fits}
+use Rattle.listfile.specs.Write.{fileOf, fileLength, writeRefuses, Writable}
 use Rattle.listfile.proofs.Theorems.{file-length}
 use Rattle.listfile.proofs.write.Statement.{statement}
 use Rattle.listfile.proofs.write.Tie as tie
@@ -59,7 +59,7 @@ module _ (n : ℕ) (vs ws old : List ℕ) where
             listed-refused 3 (left ∙ first-holds (short (length old) (fileLength (length (rowsOf vs ws)))) 4 [] (lt-ltb _ _ (subst (λ (i : ℕ). length old < i) needed h)))
 
         module _ (h : m ≤ length old) where
-          fits : Fits n vs ws old
+          fits : Writable n vs ws old
           fits = record { width = width-to n good; equal = list .equal; few = few; room = subst (λ (i : ℕ). i ≤ length old) m-is h }
 
           done : (new : List ℕ) → new ≡ sets old 0 (fileOf n vs ws) → Ends new (Count m)
