@@ -105,5 +105,5 @@ module _ (n : ℕ) (t vs ws : List ℕ) (e : checkRefuses n t vs ws ≡ 0) where
   when-so : (v : Verdict) → checkOf n t vs ws ≡ gives v ↔ Says n t (rowsOf vs ws) v
   when-so v = (λ h. subst (Says n t (rowsOf vs ws)) (same-verdict v h) (says n t (rowsOf vs ws)), λ h. answer-is ∙ ap gives (is-verdict n t (rowsOf vs ws) v h))
 
-  pub check-means : CheckMeans n t vs ws
+  pub check-means : CheckMeans n t vs ws e
   check-means = record { right-when = when-so right; missed-when = λ c. when-so (missed c); stray-when = λ c. when-so (stray c) }

@@ -30,6 +30,7 @@ isMissed t rs c = onSet t c && not (coverMatches rs c)
 abbrev pub isStray : List ℕ → Cover → ℕ → Bool
 isStray t rs c = offSet t c && coverMatches rs c
 
+-- a wrong code
 abbrev pub isWrong : List ℕ → Cover → ℕ → Bool
 isWrong t rs c = isMissed t rs c || isStray t rs c
 

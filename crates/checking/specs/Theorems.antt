@@ -6,7 +6,7 @@ use Prim.Native.Nat.{ℕ, _^_, _<_}
 use lib.Dec.{T}
 use Rattle.cube.specs.Words.{onSet, offSet, Cover, coverMatches, implements, rowsOf}
 use Rattle.cube.specs.Calls.{gives}
-use Rattle.checking.specs.Check.{right, missed, stray, isWrong, checkOf}
+use Rattle.checking.specs.Check.{checkRefuses, right, missed, stray, isWrong, checkOf}
 
 -- no code below c is wrong
 abbrev pub NoneLower : List ℕ → Cover → ℕ → Type 0
@@ -26,7 +26,8 @@ pub record NamedStray (n : ℕ) (t : List ℕ) (rs : Cover) (c : ℕ) : Type 0 w
   pub matched : T (coverMatches rs c)
   pub lowest : NoneLower t rs c
 
-pub record CheckMeans (n : ℕ) (t vs ws : List ℕ) : Type 0 where
+-- the answer to a call that is not refused
+pub record CheckMeans (n : ℕ) (t vs ws : List ℕ) (accepted : checkRefuses n t vs ws ≡ 0) : Type 0 where
   -- "A list that isn't refused passes our check exactly when it matches every wanted mark and no barred one."
   pub right-when : checkOf n t vs ws ≡ gives right ↔ T (implements n t (rowsOf vs ws))
   -- "missed with a code (wanted, unmatched)", "the lowest wrong code is named"

@@ -1,5 +1,5 @@
--- The laws of the numbers below a bound: every, some, those and run, each by induction on the bound; and how many of those that pass pass another test.
--- Assumes nothing.
+-- The laws of the numbers below a bound: every, some, those, the lowest of those and run, each by induction on the bound; and how many of those that
+-- pass pass another test. Assumes nothing.
 use mathlib.Core.Path.{_≡_, refl, sym, ap, ap₂, _∙_, subst, subst⁻¹}
 use mathlib.Core.Logic.{_⊎_, inl, inr, ⊎-elim}
 use mathlib.Core.Bool.{Bool, true, false, cond, not, _&&_, _||_}

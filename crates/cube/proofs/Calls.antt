@@ -1,5 +1,5 @@
--- What the calls share: a width that is not refused, the first condition that holds, and the two ways in which a
--- call that writes a list ends. Assumes nothing.
+-- What the calls share: the first condition that holds, and conditions behind others; a width, a table and a list that are not refused; and the
+-- two ways in which a call that writes a list ends. Assumes nothing.
 use mathlib.Core.Path.{_≡_, refl, sym, ap, _∙_}
 use mathlib.Core.Bool.{Bool, true, false, cond, not, _&&_, _||_, true≢false}
 use mathlib.Core.List.{List, [], _∷_, _++_}

@@ -29,8 +29,7 @@ anyRow f (r ∷ rs) = f r || anyRow f rs
 
 any-place : (f : Row → Bool) (vs ws : List ℕ) → length vs ≡ length ws → anyRow f (rowsOf vs ws) ≡ some (length vs) (λ i. f (rowIn vs ws i))
 unfolding anyRow rowsOf some
-any-place f [] [] e = refl
-any-place f [] (w ∷ ws) e = refl
+any-place f [] ws e = refl
 any-place f (v ∷ vs) [] e = absurd (omega arith)
 any-place f (v ∷ vs) (w ∷ ws) e =
     ap (λ (b : Bool). f (record { value = v; care = w }) || b) (any-place f vs ws (omega arith))

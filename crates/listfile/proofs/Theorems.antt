@@ -19,7 +19,7 @@ module _ (n : ℕ) (vs ws : List ℕ) where
   unfolding fileOf
   file-length e = omega (arith, length-append vs ws)
 
-  pub layout : length vs ≡ length ws → Layout n vs ws
+  pub layout : (e : length vs ≡ length ws) → Layout n vs ws e
   unfolding fileOf
   layout e = record {
     width = refl;

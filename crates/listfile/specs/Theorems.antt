@@ -5,7 +5,7 @@ use Prim.Native.Nat.{ℕ, _+_, _<_}
 use lib.ListN.{length, getD}
 use Rattle.listfile.specs.Write.{headerLength, fileOf, fileLength}
 
-pub record Layout (n : ℕ) (vs ws : List ℕ) : Type 0 where
+pub record Layout (n : ℕ) (vs ws : List ℕ) (equal : length vs ≡ length ws) : Type 0 where
   -- "Byte 0 width"
   pub width : getD (fileOf n vs ws) 0 0 ≡ n
   -- "byte 1 row count"

@@ -69,7 +69,7 @@ pub fn list_refusal(n: usize, values: &[u8], cares: &[u8]) -> u8
 }
 
 // Whether a row matches a code.
-pub fn row_matches(value: u8, care: u8, code: u8) -> bool
+fn row_matches(value: u8, care: u8, code: u8) -> bool
     ensures { λ r. ⌜ r ≡ rowMatches (record { value = value; care = care }) code ⌝ }
 {
     code & care == value
