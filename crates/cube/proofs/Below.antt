@@ -1,5 +1,5 @@
--- The laws of the numbers below a bound: every, some, those and run, each by induction on the bound; and how many of those that pass pass another test.
--- Assumes nothing.
+-- The laws of the numbers below a bound: every, some, those, the lowest of those and run, each by induction on the bound; and how many of those that
+-- pass pass another test. Assumes nothing.
 use mathlib.Core.Path.{_≡_, refl, sym, ap, ap₂, _∙_, subst, subst⁻¹}
 use mathlib.Core.Logic.{_⊎_, inl, inr, ⊎-elim}
 use mathlib.Core.Bool.{Bool, true, false, cond, not, _&&_, _||_}
@@ -11,7 +11,7 @@ use lib.Dec.{T, eqb, eqb→eq, eqb-refl}
 use lib.ListN.{length, length-append, getD, List·getD-append}
 use lib.Seq.{getD-append-seam}
 use Rattle.cube.specs.Below.{flag, every, some, those, count, Lists, run}
-use Rattle.cube.proofs.Bools.{and-l, and-r, and-i, or-e, or-l, or-r, not-e, not-i, same, is-true, is-false, holds, lt-or-le}
+use Rattle.cube.proofs.Bools.{and-l, and-r, and-i, or-e, or-l, or-r, or-exchange, not-e, not-i, same, is-true, is-false, holds, lt-or-le}
 
 -- ---- every and some
 
@@ -63,6 +63,12 @@ unfolding some
 some-same zero f g e = refl
 some-same (suc m) f g e = ap₂ _||_ (e m (lt-suc-self m)) (some-same m f g (λ k l. e k (omega arith)))
 
+-- the number 0 first, and the others one on
+pub some-front : (m : ℕ) (f : ℕ → Bool) → some (suc m) f ≡ (f 0 || some m (λ k. f (suc k)))
+unfolding some
+some-front zero f = refl
+some-front (suc m) f = ap (λ (b : Bool). f (suc m) || b) (some-front m f) ∙ or-exchange (f (suc m)) (f 0) (some m (λ k. f (suc k)))
+
 -- ---- those that pass
 
 pub those-same : (m : ℕ) (f g : ℕ → Bool) → ((c : ℕ) → c < m → f c ≡ g c) → those m f ≡ those m g
@@ -94,6 +100,47 @@ those-one (suc m) f v l h e =
 
     there : v < m → those m f ≡ v ∷ [] → those m f ++ cond (f m) (m ∷ []) [] ≡ v ∷ []
     there x ih = joined ih (is-false (f m) (λ y. let z : m ≡ v = e m (lt-suc-self m) y in omega arith))
+
+-- k is the lowest number below m that passes
+pub record Lowest (m : ℕ) (f : ℕ → Bool) (k : ℕ) : Type 0 where
+  pub below : k < m
+  pub passes : T (f k)
+  pub none-lower : (j : ℕ) → j < k → T (f j) → ⊥
+
+-- the first of those that pass is the lowest
+pub those-lowest : (m : ℕ) (f : ℕ → Bool) (k : ℕ) → Lowest m f k → (rest : List ℕ) × (those m f ≡ k ∷ rest)
+unfolding those
+those-lowest zero f k h = absurd (not-suc-le-zero (h .below))
+those-lowest (suc m) f k h =
+    ⊎-elim here (λ l. there (those-lowest m f k (record { below = l; passes = h .passes; none-lower = h .none-lower })))
+    (eq-or-lt-of-le (le-of-suc-le-suc (h .below)))
+  where
+    last : List ℕ
+    last = cond (f m) (m ∷ []) []
+
+    here : k ≡ m → (rest : List ℕ) × (those m f ++ last ≡ k ∷ rest)
+    here e = (
+      [],
+      ap₂ (λ (l : List ℕ) (b : Bool). l ++ cond b (m ∷ []) []) (those-none m f (λ j l. h .none-lower j (omega arith)))
+          (is-true (f m) (subst (λ (i : ℕ). T (f i)) e (h .passes)))
+          ∙ ap (λ (i : ℕ). i ∷ []) (sym e),
+    )
+
+    there : (rest : List ℕ) × (those m f ≡ k ∷ rest) → (rest : List ℕ) × (those m f ++ last ≡ k ∷ rest)
+    there r = (r .0 ++ last, ap (λ (l : List ℕ). l ++ last) (r .1))
+
+pub lowest-or-none : (m : ℕ) (f : ℕ → Bool) → ((k : ℕ) × Lowest m f k) ⊎ ((k : ℕ) → k < m → T (f k) → ⊥)
+lowest-or-none zero f = inr (λ k l x. not-suc-le-zero l)
+lowest-or-none (suc m) f = ⊎-elim found (λ none. go none (f m) refl) (lowest-or-none m f)
+  where
+    found : (k : ℕ) × Lowest m f k → ((k : ℕ) × Lowest (suc m) f k) ⊎ ((k : ℕ) → k < suc m → T (f k) → ⊥)
+    found r = let l : r .0 < m = r .1 .below in inl (r .0, record { below = omega arith; passes = r .1 .passes; none-lower = r .1 .none-lower })
+
+    go : ((k : ℕ) → k < m → T (f k) → ⊥) → (b : Bool) → f m ≡ b
+        → ((k : ℕ) × Lowest (suc m) f k) ⊎ ((k : ℕ) → k < suc m → T (f k) → ⊥)
+    go none true e = inl (m, record { below = lt-suc-self m; passes = holds (f m) e; none-lower = none })
+    go none false e =
+        inr (λ k l x. ⊎-elim (λ i. subst T (ap f i ∙ e) x) (λ i. none k i x) (eq-or-lt-of-le (le-of-suc-le-suc l)))
 
 -- f is g below s and h from s on
 module _ (f g h : ℕ → Bool) (s : ℕ) where

@@ -1,15 +1,16 @@
--- Writing into a lent list from the front: runs of stores join, a pass that stores each number that passes a test, and a pass that fills a list
--- with a function's values. Assumes nothing.
+-- Writing into a lent list from the front: runs of stores join, a part of the list that is lent on for a copy, a pass that stores a value for each
+-- number that passes a test, and a pass that fills a list with a function's values. Assumes nothing.
 use mathlib.Core.Path.{_≡_, refl, sym, ap, ap₂, _∙_, subst, subst₂}
 use mathlib.Core.Bool.{Bool, true, false, cond}
-use mathlib.Core.List.{List, [], _∷_, _++_, append-nil, map, map-id}
-use Prim.Native.Nat.{ℕ, suc, _+_, _<_, _≤_}
+use mathlib.Core.List.{List, [], _∷_, _++_, append-nil, append-assoc, map, map-id}
+use Prim.Native.Nat.{ℕ, suc, _+_, _-_, _<_, _≤_}
 use native.Mathlib.Nat.{zero-add, add-zero, add-suc, suc-add}
 use native.Mathlib.Numerals.{add-one}
 use native.Mathlib.Omega.{arith}
-use lib.ListN.{length, length-append, length-map, set, take, drop, getD, List·getD-append}
-use lib.Seq.{sets, length-sets, sets-eq, take-suc, getD-set-same, getD-set-other}
+use lib.ListN.{length, length-append, length-map, set, take, drop, drop-of-length-le, getD, List·getD-append}
+use lib.Seq.{sets, length-sets, sets-eq, take-length, take-suc, getD-set-same, getD-set-other}
 use borrow.Author.Count.{below-more}
+use borrow.Rule.Slice.PartMut.{midOf, putMid, mid-len, post-is}
 use borrow.Table.Elements.{map-app, length-take-le}
 use Rattle.cube.specs.Below.{those}
 use Rattle.cube.proofs.Below.{those-length}
@@ -26,6 +27,20 @@ sets-front xs old h = sets-eq xs old 0 (omega arith) ∙ ap (λ (i : ℕ). xs ++
 
 pub sets-at : (xs old : List ℕ) (i : ℕ) → length xs ≤ length old → i < length xs → getD (sets old 0 xs) i 0 ≡ getD xs i 0
 sets-at xs old i h l = ap (λ (l : List ℕ). getD l i 0) (sets-front xs old h) ∙ List·getD-append xs (drop (length xs) old) 0 i l
+
+-- a middle part that was lent and comes back with a copy of a source of its length: a run of stores
+pub put-copied : (a e : ℕ) (xs src part : List ℕ) → a + length src ≡ e → e ≤ length xs → part ≡ take (length src) src ++ drop (length src) (midOf a (e - a) xs)
+    → putMid a (e - a) xs part ≡ sets xs a src
+put-copied a e xs src part s h d =
+    ap (λ (l : List ℕ). putMid a (e - a) xs l) copied ∙ ap (λ (l : List ℕ). take a xs ++ (src ++ l)) (post-is a e xs (omega arith))
+    ∙ sym (append-assoc (take a xs) src (drop e xs))
+    ∙ sym (sets-eq src xs a (omega arith) ∙ ap (λ (i : ℕ). take a xs ++ src ++ drop i xs) s)
+  where
+    full : length (midOf a (e - a) xs) ≤ length src
+    full = omega (arith, mid-len a e xs h)
+
+    copied : part ≡ src
+    copied = d ∙ ap₂ _++_ (take-length src) (drop-of-length-le (midOf a (e - a) xs) full) ∙ append-nil src
 
 -- one store more, right behind a run from the front
 pub store-more : (old xs : List ℕ) {new : List ℕ} {i : ℕ} (x : ℕ) → new ≡ sets old 0 xs → i ≡ length xs → set new i x ≡ sets old 0 (xs ++ x ∷ [])

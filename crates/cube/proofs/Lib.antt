@@ -11,6 +11,7 @@ pub mod Independent
 pub mod Cases
 pub mod Lent
 pub mod Calls
+pub mod Lists
 pub mod McCluskey
 pub mod Covers
 pub mod Minimum

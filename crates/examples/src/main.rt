@@ -1,4 +1,5 @@
 // Runs the calls of document 01 on its edges and on worked examples, and prints what they answer and leave.
+mod covers;
 mod cubes;
 mod print;
 mod terms;
@@ -6,4 +7,5 @@ mod terms;
 fn main() {
     cubes::run();
     terms::run();
+    covers::run();
 }
