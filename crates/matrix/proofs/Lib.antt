@@ -1,3 +1,4 @@
 -- The laws of sets of columns and of rows.
 pub mod Bits
 pub mod Members
+pub mod Walks

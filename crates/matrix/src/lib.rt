@@ -4,3 +4,4 @@
 // A row with the columns 0 and 3, asked for its columns: `columns::next(9, 0)` is 0, `columns::next(9, 1)` is 3 and `columns::next(9, 4)` is 64, the end.
 pub mod columns;
 pub mod rows;
+pub mod transposed;
