@@ -70,10 +70,11 @@ module _ (op : Bool → Bool → Bool) (a b : List ℕ) where
 
   pub joined-more : (s : List ℕ) (k v : ℕ) → k < 12 → Joined op a b s k → ((x : ℕ) → has v x ≡ op (has (getD s k 0) x) (has (getD b k 0) x))
       → Joined op a b (set s k v) (k + 1)
-  joined-more s k v l h e = record
-    { long = length-set s k v ∙ h .long
-    ; done = λ m x n. go m x n (ℕ-discrete m k)
-    ; left = λ m n. getD-set-other s k m v 0 (λ z. omega arith) ∙ h .left m (omega arith) }
+  joined-more s k v l h e = record {
+    long = length-set s k v ∙ h .long;
+    done = λ m x n. go m x n (ℕ-discrete m k);
+    left = λ m n. getD-set-other s k m v 0 (λ z. omega arith) ∙ h .left m (omega arith);
+  }
     where
       go : (m x : ℕ) → m < k + 1 → Dec (m ≡ k) → has (getD (set s k v) m 0) x ≡ op (has (getD a m 0) x) (has (getD b m 0) x)
       go m x n (yes d) =
