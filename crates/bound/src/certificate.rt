@@ -39,7 +39,7 @@ fn pays(words: &[u64], weights: &[u32], undecided: u64, prices: &[u32; 64], i: u
     requires { ⌜ Sizes (now words) (now weights) × (i < length (now words)) ⌝ }
     ensures { λ r. ⌜ (r ≡ true → Pays (now (words .entry)) (now (weights .entry)) undecided (now (prices .entry)) i) ⌝ }
 {
-    value(prices, columns::both(words[i], undecided)) <= wide(weights[i])
+    value(prices, columns::both(words[i], undecided)) <= matrix::weight(weights, i)
 }
 
 // Whether each live row pays.
@@ -90,8 +90,9 @@ fn weight_range(words: &[u64], weights: &[u32], live: &[u64; 12]) -> Range
     let mut most: u64 = 1;
     let mut i = rows::next(live, 0, words.len());
     while i < words.len() {
-        least = smaller(least, wide(weights[i]));
-        most = larger(most, wide(weights[i]));
+        let weight = matrix::weight(weights, i);
+        least = smaller(least, weight);
+        most = larger(most, weight);
         i = rows::next(live, i + 1, words.len());
     }
     Range { least, most }
@@ -129,7 +130,7 @@ fn fix_row(
     ensures { λ r. ⌜ Kept (now (words .entry)) (now (weights .entry)) live undecided limit r ⌝ }
 {
     let left = value(prices, columns::without(undecided, words[i]));
-    if limit <= wide(weights[i]) + left {
+    if limit <= matrix::weight(weights, i) + left {
         return rows::without_row(live, i);
     }
     live

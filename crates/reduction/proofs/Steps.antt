@@ -16,7 +16,7 @@ use Rattle.matrix.specs.Matrix.{covers, weightOf}
 use Rattle.matrix.proofs.Bits.{in-below}
 use Rattle.matrix.proofs.Walks.{clash}
 use Rattle.matrix.proofs.Without.{kept-of, kept-or, left-in, left-out, left-rest, left-count, count-fewer, count-most}
-use Rattle.reduction.specs.Reduction.{Keeps, Reduces, Dominates, OneRow, Room, Onward, ReducedTo}
+use Rattle.reduction.specs.Reduction.{Keeps, Reduces, Dominates, OneRow, Room, RowTaken, Onward, ReducedTo}
 use Rattle.reduction.specs.declared.Remaining.{Remaining}
 use Rattle.reduction.proofs.Narrowing.{of-both}
 
@@ -49,18 +49,21 @@ module _ (words weights : List ℕ) where
   pub onward-then : (s t r : Remaining) → Onward words weights s t → Onward words weights t r → Onward words weights s r
   onward-then s t r f g = record { fewer = λ i h. f .fewer i (g .fewer i h); room = g .room; reduced = λ live u h. g .reduced live u (f .reduced live u h) }
 
-  -- the row r taken for the column c
-  pub onward-taken : (s t : Remaining) (r c : ℕ) → OneRow words (s .live) c → Room s → In (s .undecided) c → r < 768 → Member (s .live) r → covers words r c
-      → weightOf weights r < 2 ^ 32 → ((j : ℕ) → member (t .live) j ≡ (member (s .live) j && not (eqb j r)))
-      → ((x : ℕ) → has (t .undecided) x ≡ (has (s .undecided) x && not (has (getD words r 0) x)))
-      → ((j : ℕ) → member (t .taken) j ≡ (eqb j r || member (s .taken) j)) → t .cost ≡ s .cost + weightOf weights r → Onward words weights s t
-  onward-taken s t r c one room u l is k w e f g cost = record {
-    fewer = left-in (s .live) (t .live) r e;
-    room = omega (arith, left-count (s .live) (t .live) r e 768 l is);
-    reduced = λ live v h. rw cost
-        (then (covers words) (weightOf weights) 768 (λ i. g i ∙ or-comm (eqb i r) (member (s .taken) i)) h
-        (take-row (covers words) (weightOf weights) 768 r c l is (left-out (s .live) (t .live) r e) (left-in (s .live) (t .live) r e) (left-rest (s .live) (t .live) r e)
-        u (λ i m n. one i r m is n k) (λ x n. kept-of (has (s .undecided) x) (has (getD words r 0) x) (f x) n) (λ x n. kept-or (has (s .undecided) x) (has (getD words r 0) x) (f x) n)));
+  -- the room that is left when a row is taken
+  pub room-taken : (s : Remaining) (live : List ℕ) (r : ℕ) → Room s → r < 768 → Member (s .live) r → weightOf weights r < 2 ^ 32
+      → ((j : ℕ) → member live j ≡ (member (s .live) j && not (eqb j r))) → s .cost + weightOf weights r + count 768 (member live) * 2 ^ 32 ≤ 768 * 2 ^ 32
+  room-taken s live r room l is w e = omega (arith, left-count (s .live) live r e 768 l is)
+
+  -- the row r taken for the column c, of which it is the only one
+  pub onward-taken : (s t : Remaining) (r c : ℕ) → OneRow words (s .live) c → In (s .undecided) c → r < 768 → Member (s .live) r → covers words r c
+      → RowTaken words weights s r t → Onward words weights s t
+  onward-taken s t r c one u l is k h = record {
+    fewer = left-in (s .live) (t .live) r (h .live);
+    room = h .room;
+    reduced = λ live v f. rw (h .cost) (then (covers words) (weightOf weights) 768 (λ i. h .taken i ∙ or-comm (eqb i r) (member (s .taken) i)) f
+        (take-row (covers words) (weightOf weights) 768 r c l is (left-out (s .live) (t .live) r (h .live)) (left-in (s .live) (t .live) r (h .live)) (left-rest (s .live) (t .live) r (h .live))
+        u (λ i m n. one i r m is n k) (λ x n. kept-of (has (s .undecided) x) (has (getD words r 0) x) (h .undecided x) n)
+        (λ x n. kept-or (has (s .undecided) x) (has (getD words r 0) x) (h .undecided x) n)));
   }
 
   -- columns and rows dropped, and then more

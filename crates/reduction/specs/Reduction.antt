@@ -1,8 +1,9 @@
 -- The reductions of a covering problem on slices: what each step shows, and what is left at the end. Definitions only. Assumes nothing.
 use mathlib.Core.Path.{_≡_}
 use mathlib.Core.List.{List}
-use mathlib.Core.Bool.{false}
+use mathlib.Core.Bool.{not, _&&_, _||_}
 use Prim.Native.Nat.{ℕ, _+_, _*_, _^_, _≤_, _<_}
+use lib.Dec.{eqb}
 use lib.ListN.{getD}
 use Rattle.covering.specs.Cover.{count}
 use Rattle.covering.specs.Search.{Reduced, none}
@@ -52,6 +53,14 @@ pub record FirstRow (words live : List ℕ) (c n r : ℕ) : Type 0 where
 -- the rows taken and the live rows together weigh less than 768 * 2 ^ 32
 abbrev pub Room : Remaining → Type 0
 Room s = s .cost + count 768 (member (s .live)) * 2 ^ 32 ≤ 768 * 2 ^ 32
+
+-- the row r is taken: it is live no more, its columns are decided, and its weight is counted
+pub record RowTaken (words weights : List ℕ) (s : Remaining) (r : ℕ) (t : Remaining) : Type 0 where
+  pub live : (j : ℕ) → member (t .live) j ≡ (member (s .live) j && not (eqb j r))
+  pub undecided : (x : ℕ) → has (t .undecided) x ≡ (has (s .undecided) x && not (has (getD words r 0) x))
+  pub taken : (j : ℕ) → member (t .taken) j ≡ (eqb j r || member (s .taken) j)
+  pub cost : t .cost ≡ s .cost + weightOf weights r
+  pub room : Room t
 
 -- From s on to t: no more rows are live, and whatever came down to s comes down to t.
 pub record Onward (words weights : List ℕ) (s t : Remaining) : Type 0 where

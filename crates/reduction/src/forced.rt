@@ -5,7 +5,7 @@ ghost use Prim.Native.Nat.{ℕ, _+_, _≤_, _<_};
 ghost use lib.ListN.{length, getD};
 ghost use Rattle.matrix.specs.Matrix.{Sizes};
 ghost use Rattle.matrix.specs.Sets.{has, Member};
-ghost use Rattle.reduction.specs.Reduction.{Counted, FirstRow, OneRow, Onward, Room};
+ghost use Rattle.reduction.specs.Reduction.{Counted, FirstRow, OneRow, Onward, Room, RowTaken};
 use crate::Remaining;
 use matrix::columns;
 use matrix::rows;
@@ -56,27 +56,35 @@ fn row_for(words: &[u64], live: &[u64; 12], c: usize) -> usize
     words.len()
 }
 
+// The live row r taken: it is live no more, its columns are decided, and its weight is counted.
+pub fn take_row(words: &[u64], weights: &[u32], state: Remaining, r: usize) -> Remaining
+    requires { ⌜ Sizes (now words) (now weights) × (r < length (now words)) × Member (state .live) r × Room state ⌝ }
+    ensures { λ t. ⌜ RowTaken (now (words .entry)) (now (weights .entry)) state r t ⌝ }
+{
+    let live = state.live;
+    let taken = state.taken;
+    Remaining {
+        live: rows::without_row(live, r),
+        undecided: columns::without(state.undecided, words[r]),
+        taken: rows::with_row(taken, r),
+        cost: state.cost + matrix::weight(weights, r),
+    }
+}
+
 // The row for the undecided column c taken, if there is one.
 fn take(words: &[u64], weights: &[u32], state: Remaining, c: usize) -> Remaining
     requires { ⌜ Sizes (now words) (now weights) × (c < 64) × OneRow (now words) (state .live) c × Room state ⌝ }
     ensures { λ r. ⌜ Onward (now (words .entry)) (now (weights .entry)) state r ⌝ }
 {
-    let live = state.live;
-    let undecided = state.undecided;
-    if !columns::has(undecided, c) {
+    if !columns::has(state.undecided, c) {
         return state;
     }
+    let live = state.live;
     let r = row_for(words, &live, c);
     if r == words.len() {
         return state;
     }
-    let taken = state.taken;
-    Remaining {
-        live: rows::without_row(live, r),
-        undecided: columns::without(undecided, words[r]),
-        taken: rows::with_row(taken, r),
-        cost: state.cost + weights[r] as u64,
-    }
+    take_row(words, weights, state, r)
 }
 
 // The rows taken that are the only ones for an undecided column.

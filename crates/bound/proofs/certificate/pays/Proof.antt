@@ -18,29 +18,16 @@ both-requires c κs = search needs
 value-requires : tie.Need-value-requires
 value-requires c κs = search needs
 
-mul-wide : tie.Need-mul-wide
-mul-wide c = search needs
-
-shared-slice-read-wide : tie.Need-shared-slice-read-wide
-shared-slice-read-wide c = search needs
-
-wide-requires : tie.Need-wide-requires
-wide-requires c κs = search needs
+weight-requires : tie.Need-weight-requires
+weight-requires c κs = search needs
 
 returns : tie.Need-returns
 returns c =
-    let a = c .before .before .before .before .before .before .before .args in
-    λ e. pays-by (a .words .now) (a .weights .now) (a .prices .now) _ _ _ _ (c .before .before .before .both .ensures) (c .before .before .value .ensures .is) (omega (arith, leb-true (c .before .before .value .result) (c .wide .result) e, c .wide .ensures .0))
+    let a = c .before .before .before .before .before .before .args in
+    λ e. pays-by (a .words .now) (a .weights .now) (a .prices .now) _ _ _ _ (c .before .before .both .ensures) (c .before .value .ensures .is)
+    (omega (arith, leb-true (c .before .value .result) (c .weight .result) e, c .weight .ensures .0))
 
 pub pays-spec : {M : Type 1} → statement M
 pays-spec =
     tie.close
-    (tie.spec
-    mul-both
-    shared-slice-read-both
-    both-requires
-    value-requires
-    mul-wide
-    shared-slice-read-wide
-    wide-requires
-    returns)
+    (tie.spec mul-both shared-slice-read-both both-requires value-requires weight-requires returns)

@@ -1,6 +1,6 @@
 -- `bound::certificate::weight_range` meets its contract. The invariant: the weights of the live rows before i lie in the range. Assumes nothing.
 use borrow.Author.Needs.{needs}
-use Prim.Native.Nat.{ℕ, _^_, _≤_, _<_, _-_}
+use Prim.Native.Nat.{_≤_, _-_}
 use native.Mathlib.Omega.{arith}
 use lib.ListN.{length}
 use Rattle.matrix.proofs.Walks.{all-first, all-turn}
@@ -20,26 +20,11 @@ next-requires c κs = search needs
 loop-holds : tie.Need-loop-holds Inv-loop μ-loop
 loop-holds c = (search needs, record { positive = omega arith; small = omega arith; above = all-first _ _ (c .next .ensures); below = all-first _ _ (c .next .ensures) })
 
-mul-wide : tie.Need-mul-wide Inv-loop μ-loop
-mul-wide c = search needs
-
-shared-slice-read-wide : tie.Need-shared-slice-read-wide Inv-loop μ-loop
-shared-slice-read-wide c = search needs
-
-wide-requires : tie.Need-wide-requires Inv-loop μ-loop
-wide-requires c κs = search needs
+weight-requires : tie.Need-weight-requires Inv-loop μ-loop
+weight-requires c κs = search needs
 
 smaller-requires : tie.Need-smaller-requires Inv-loop μ-loop
 smaller-requires c κs = search needs
-
-mul-wide-2 : tie.Need-mul-wide-2 Inv-loop μ-loop
-mul-wide-2 c = search needs
-
-shared-slice-read-wide-2 : tie.Need-shared-slice-read-wide-2 Inv-loop μ-loop
-shared-slice-read-wide-2 c = search needs
-
-wide-requires-2 : tie.Need-wide-requires-2 Inv-loop μ-loop
-wide-requires-2 c κs = search needs
 
 larger-requires : tie.Need-larger-requires Inv-loop μ-loop
 larger-requires c κs = search needs
@@ -55,17 +40,16 @@ loop-less c = search needs
 
 loop-again : tie.Need-loop-again Inv-loop μ-loop
 loop-again c =
-    let r = c .before .before .before .before .before .before .before .before .loop .inv .1 in
+    let r = c .before .before .before .before .before .loop .inv .1 in
     let n = c .next2 .ensures in
-    let s = c .before .before .before .before .smaller .ensures in
+    let s = c .before .before .smaller .ensures in
     let m = c .before .larger .ensures in
-    let v = c .before .before .before .before .before .wide .ensures in
-    let w = c .before .before .wide2 .ensures in (
+    let w = c .before .before .before .weight .ensures in (
       search needs,
       record {
         positive = omega (arith, r .positive, m);
-        small = omega (arith, r .small, s, m, v .1, w .1);
-        above = all-turn _ _ _ (λ j l h. omega (arith, r .above j l h, s)) (omega (arith, s, v .0)) n;
+        small = omega (arith, r .small, s, m, w .1);
+        above = all-turn _ _ _ (λ j l h. omega (arith, r .above j l h, s)) (omega (arith, s, w .0)) n;
         below = all-turn _ _ _ (λ j l h. omega (arith, r .below j l h, m)) (omega (arith, m, w .0)) n;
       },
     )
@@ -83,13 +67,8 @@ weight-range-spec =
     μ-loop
     next-requires
     loop-holds
-    mul-wide
-    shared-slice-read-wide
-    wide-requires
+    weight-requires
     smaller-requires
-    mul-wide-2
-    shared-slice-read-wide-2
-    wide-requires-2
     larger-requires
     add-next
     next-requires-2
