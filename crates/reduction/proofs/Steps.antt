@@ -11,10 +11,8 @@ use lib.Dec.{eqb}
 use lib.ListN.{length, getD}
 use Rattle.covering.specs.Cover.{count}
 use Rattle.covering.proofs.Reductions.{unchanged, then, then-kept, drop-row, take-row}
-use Rattle.matrix.specs.Sets.{has, In, member, Member, Next}
+use Rattle.matrix.specs.Sets.{has, In, member, Member}
 use Rattle.matrix.specs.Matrix.{covers, weightOf}
-use Rattle.matrix.proofs.Bits.{in-below}
-use Rattle.matrix.proofs.Walks.{clash}
 use Rattle.matrix.proofs.Without.{kept-of, kept-or, left-in, left-out, left-rest, left-count, count-fewer, count-most}
 use Rattle.reduction.specs.Reduction.{Keeps, Reduces, Dominates, OneRow, Room, RowTaken, Onward, ReducedTo}
 use Rattle.reduction.specs.declared.Remaining.{Remaining}
@@ -30,10 +28,10 @@ module _ (words weights : List ℕ) where
         (left-rest live rest i e j (d .lives) (d .other), tt) (omega (arith, d .light)) (λ c v k. inl (d .inside c v k))
 
     -- a row with no undecided column
-    pub drop-useless : (s : ℕ) → u < 2 ^ 64 → ((x : ℕ) → has s x ≡ (has (getD words i 0) x && has u x)) → {c : ℕ} → Next (has s) 0 64 c → c ≡ 64 → Keeps words weights live u rest u
-    drop-useless s l f n h =
+    pub drop-useless : (s : ℕ) → ((x : ℕ) → has s x ≡ (has (getD words i 0) x && has u x)) → ((x : ℕ) → In s x → ⊥) → Keeps words weights live u rest u
+    drop-useless s f n =
         drop-row (covers words) (weightOf weights) 768 i [] (left-in live rest i e) (left-rest live rest i e) tt (omega arith)
-        (λ c v k. let b = in-below u c 64 l v in clash (of-both (f c) k v) (n .before c (omega arith) (omega arith)))
+        (λ c v k. absurd (n c (of-both (f c) k v)))
 
   pub keeps-all : (live : List ℕ) (u : ℕ) → Keeps words weights live u live u
   keeps-all live u = unchanged (covers words) (weightOf weights) 768

@@ -82,7 +82,7 @@ fn drop_row(
     ensures { λ r. ⌜ Keeps (now (words .entry)) (now (weights .entry)) live undecided r undecided ⌝ }
 {
     let set = columns::both(words[i], undecided);
-    if columns::next(set, 0) == 64 {
+    if columns::is_empty(set) {
         return rows::without_row(live, i);
     }
     let found = candidates(live, by_column, set);

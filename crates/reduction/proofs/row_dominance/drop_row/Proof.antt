@@ -13,8 +13,8 @@ shared-slice-read-both c = search needs
 both-requires : tie.Need-both-requires
 both-requires c κs = search needs
 
-next-requires : tie.Need-next-requires
-next-requires c κs = search needs
+is-empty-requires : tie.Need-is-empty-requires
+is-empty-requires c κs = search needs
 
 without-row-requires : tie.Need-without-row-requires
 without-row-requires c κs = search needs
@@ -22,7 +22,7 @@ without-row-requires c κs = search needs
 returns : tie.Need-returns
 returns c =
     let a = c .before .before .before .before .before .before .before .args in
-    drop-useless (a .words .now) (a .weights .now) _ _ _ _ (c .without-row .ensures) _ (c .before .before .before .before .before .before .before .fits .undecided .fits) (c .before .before .before .both .ensures) (c .before .before .next .ensures) (c .before .if1 .taken)
+    drop-useless (a .words .now) (a .weights .now) _ _ _ _ (c .without-row .ensures) _ (c .before .before .before .both .ensures) (c .before .before .is-empty .ensures .none (c .before .if1 .taken))
 
 candidates-requires : tie.Need-candidates-requires
 candidates-requires c κs = search needs
@@ -48,7 +48,7 @@ drop-row-spec =
     mul-both
     shared-slice-read-both
     both-requires
-    next-requires
+    is-empty-requires
     without-row-requires
     returns
     candidates-requires
