@@ -57,6 +57,9 @@ some-found m f k l e = is-true (some m f) (some-by m f k l (holds (f k) e))
 pub some-none : (m : ℕ) (f : ℕ → Bool) → ((k : ℕ) → k < m → f k ≡ false) → some m f ≡ false
 some-none m f h = is-false (some m f) (λ s. let r = some-at m f s in subst T (h (r .0) (r .1)) (r .2))
 
+pub some-missing : (m : ℕ) (f : ℕ → Bool) → some m f ≡ false → (k : ℕ) → k < m → f k ≡ false
+some-missing m f e k l = is-false (f k) (λ x. subst T e (some-by m f k l x))
+
 pub some-same : (m : ℕ) (f g : ℕ → Bool) → ((k : ℕ) → k < m → f k ≡ g k) → some m f ≡ some m g
 unfolding some
 some-same zero f g e = refl
@@ -222,3 +225,15 @@ run-from f (suc m) i (suc k) h = run-from f m (suc i) k (le-of-suc-le-suc h) ∙
 -- A constant table that is the run of a definition: the checker computes the run and compares it with the table once, and this is the rule at each entry.
 pub run-at : (f : ℕ → ℕ) (m k : ℕ) → k < m → getD (run m 0 f) k 0 ≡ f k
 run-at f m k h = run-from f m 0 k h ∙ ap f (zero-add k)
+
+pub run-length : (f : ℕ → ℕ) (m i : ℕ) → length (run m i f) ≡ m
+unfolding run
+run-length f zero i = refl
+run-length f (suc m) i = ap suc (run-length f m (suc i))
+
+-- one value more
+pub run-more : (f : ℕ → ℕ) (m i : ℕ) → run (suc m) i f ≡ run m i f ++ (f (i + m) ∷ [])
+unfolding run
+run-more f zero i = ap (λ (k : ℕ). f k ∷ []) (sym (add-zero i))
+run-more f (suc m) i =
+    ap (λ (l : List ℕ). f i ∷ l) (run-more f m (suc i) ∙ ap (λ (k : ℕ). run m (suc i) f ++ (f k ∷ [])) (suc-add i m ∙ sym (add-suc i m)))

@@ -10,5 +10,6 @@ pub mod Theorems
 pub mod Independent
 pub mod Cases
 pub mod Lent
+pub mod Fronts
 pub mod Calls
 pub mod McCluskey

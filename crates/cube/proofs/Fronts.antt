@@ -1,0 +1,30 @@
+-- The first elements of a list: what is cut off twice is cut off once, and the first rows of two arrays, with one row more and how many they are. Assumes nothing.
+use mathlib.Core.Path.{_≡_, refl, ap}
+use mathlib.Core.List.{List, [], _∷_, _++_}
+use Prim.Native.Nat.{ℕ, zero, suc, _<_, _≤_}
+use native.Mathlib.Nat.{not-suc-le-zero, le-of-suc-le-suc}
+use lib.ListN.{length, take, getD}
+use Rattle.cube.specs.Words.{Cover, rowsOf}
+
+-- what was cut off before more came is cut off after
+pub take-cut : (m : ℕ) (xs ys : List ℕ) → take m (take m xs ++ ys) ≡ take m (xs ++ ys)
+take-cut zero xs ys = refl
+take-cut (suc m) [] ys = refl
+take-cut (suc m) (x ∷ xs) ys = ap (λ (l : List ℕ). x ∷ l) (take-cut m xs ys)
+
+-- "row i is place i of the value array with place i of the care array."
+pub rows-more : (i : ℕ) (vs ws : List ℕ) → i < length vs → i < length ws
+    → rowsOf (take (suc i) vs) (take (suc i) ws) ≡ rowsOf (take i vs) (take i ws) ++ (record { value = getD vs i 0; care = getD ws i 0 } ∷ [])
+unfolding rowsOf
+rows-more i [] ws l m = absurd (not-suc-le-zero l)
+rows-more i (v ∷ vs) [] l m = absurd (not-suc-le-zero m)
+rows-more zero (v ∷ vs) (w ∷ ws) l m = refl
+rows-more (suc i) (v ∷ vs) (w ∷ ws) l m =
+    ap (λ (rs : Cover). record { value = v; care = w } ∷ rs) (rows-more i vs ws (le-of-suc-le-suc l) (le-of-suc-le-suc m))
+
+pub rows-first : (i : ℕ) (vs ws : List ℕ) → i ≤ length vs → i ≤ length ws → length (rowsOf (take i vs) (take i ws)) ≡ i
+unfolding rowsOf
+rows-first zero vs ws l m = refl
+rows-first (suc i) [] ws l m = absurd (not-suc-le-zero l)
+rows-first (suc i) (v ∷ vs) [] l m = absurd (not-suc-le-zero m)
+rows-first (suc i) (v ∷ vs) (w ∷ ws) l m = ap suc (rows-first i vs ws (le-of-suc-le-suc l) (le-of-suc-le-suc m))
