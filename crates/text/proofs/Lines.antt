@@ -6,7 +6,7 @@ use Prim.Native.Nat.{ℕ, _+_, _*_, _^_, _<_, _≤_}
 use native.Mathlib.Nat.{zero-add, add-zero}
 use native.Mathlib.Omega.{arith}
 use lib.ListN.{length, length-append, set}
-use lib.Seq.{sets, length-sets}
+use lib.Seq.{sets, length-sets, length-take-le}
 use Rattle.cube.specs.Below.{run}
 use Rattle.cube.specs.Words.{Row, Cover}
 use Rattle.cube.specs.Calls.{widest}
@@ -47,7 +47,9 @@ room-last y p l = omega (arith, room-second (y ∷ []) p l)
 
 -- from the front
 pub puts-front : {text old new : List ℕ} {r : ℕ} → length text ≤ length old → Puts text old 0 new r → Prints text old new r
-puts-front {text} {old} l p = record { count = p .behind ∙ zero-add (length text); places = p .places ∙ sets-front text old l }
+puts-front {text} {old} {new} {r} l p =
+    let inside : r ≤ length new = omega (arith, p .behind, puts-long p) in
+    record { count = p .behind ∙ zero-add (length text); places = p .places ∙ sets-front text old l; inside = inside; front = sym (length-take-le r new inside) }
 
 -- ---- lines
 

@@ -25,7 +25,10 @@ pub record Printable (n : ℕ) (values cares : List ℕ) (count : ℕ) (out : Li
   pub few : count ≤ 2 ^ widest
   pub room : mostOutput ≤ length out
 
--- a text stands at the front of the buffer, and the answer is its length; what is behind it is unchanged
+-- a text stands at the front of the buffer, and the answer is its length; what is behind it is unchanged. The last two follow: a caller lends the
+-- text on by them.
 pub record Prints (text old new : List ℕ) (r : ℕ) : Type 0 where
   pub count : r ≡ length text
   pub places : new ≡ written 0 text old
+  pub inside : r ≤ length new
+  pub front : r ≡ length (take r new)
