@@ -1,9 +1,11 @@
--- The first elements of a list: what is cut off twice is cut off once, and the first rows of two arrays, with one row more and how many they are. Assumes nothing.
-use mathlib.Core.Path.{_≡_, refl, ap}
+-- The first elements of a list: what is cut off twice is cut off once; one element more; and the first rows of two arrays, with one row more and how many they are. Assumes nothing.
+use mathlib.Core.Path.{_≡_, refl, ap, _∙_}
 use mathlib.Core.List.{List, [], _∷_, _++_}
-use Prim.Native.Nat.{ℕ, zero, suc, _<_, _≤_}
+use Prim.Native.Nat.{ℕ, zero, suc, _+_, _<_, _≤_}
 use native.Mathlib.Nat.{not-suc-le-zero, le-of-suc-le-suc}
+use native.Mathlib.Numerals.{add-one}
 use lib.ListN.{length, take, getD}
+use lib.Seq.{take-suc}
 use Rattle.cube.specs.Words.{Cover, rowsOf}
 
 -- what was cut off before more came is cut off after
@@ -11,6 +13,10 @@ pub take-cut : (m : ℕ) (xs ys : List ℕ) → take m (take m xs ++ ys) ≡ tak
 take-cut zero xs ys = refl
 take-cut (suc m) [] ys = refl
 take-cut (suc m) (x ∷ xs) ys = ap (λ (l : List ℕ). x ∷ l) (take-cut m xs ys)
+
+-- one element more
+pub take-more : (xs : List ℕ) (i : ℕ) → i < length xs → take (i + 1) xs ≡ take i xs ++ (getD xs i 0 ∷ [])
+take-more xs i l = ap (λ (k : ℕ). take k xs) (add-one i) ∙ take-suc xs i 0 l
 
 -- "row i is place i of the value array with place i of the care array."
 pub rows-more : (i : ℕ) (vs ws : List ℕ) → i < length vs → i < length ws

@@ -1,6 +1,6 @@
 -- Texts put into a buffer one behind the other are one text; the lines of one row more; and how long the lines of a list are.
 -- Assumes nothing.
-use mathlib.Core.Path.{_≡_, refl, sym, ap, ap₂, _∙_}
+use mathlib.Core.Path.{_≡_, refl, sym, ap, ap₂, _∙_, subst, subst₂}
 use mathlib.Core.List.{List, [], _∷_, _++_, append-nil, append-assoc}
 use Prim.Native.Nat.{ℕ, _+_, _*_, _^_, _<_, _≤_}
 use native.Mathlib.Nat.{zero-add, add-zero}
@@ -28,11 +28,18 @@ puts-append {xs} {ys} {old} {at = at} p q = record {
   places = q .places ∙ ap₂ (λ (l : List ℕ) (i : ℕ). sets l i ys) (p .places) (p .behind) ∙ sets-append old at xs ys;
 }
 
-pub puts-one : {xs old new : List ℕ} {at next : ℕ} (x : ℕ) → Puts xs old at new next → Puts (xs ++ (x ∷ [])) old at (set new next x) (next + 1)
-puts-one x p = puts-append p (record { behind = refl; places = refl })
-
 pub puts-long : {xs old new : List ℕ} {at next : ℕ} → Puts xs old at new next → length new ≡ length old
 puts-long {xs} {old} {at = at} p = ap length (p .places) ∙ length-sets old at xs
+
+-- a loop that puts a text byte by byte, with i the bytes that are put
+pub puts-start : (old : List ℕ) (at : ℕ) → Puts [] old at old (at + 0)
+puts-start old at = subst (Puts [] old at old) (sym (add-zero at)) (puts-none old at)
+
+pub puts-turn : {xs ys old new : List ℕ} {at : ℕ} (i x : ℕ) → ys ≡ xs ++ (x ∷ []) → Puts xs old at new (at + i)
+    → Puts ys old at (set new (at + i) x) (at + (i + 1))
+puts-turn {old = old} {new} {at} i x e p =
+    let next : at + i + 1 ≡ at + (i + 1) = omega arith in
+    subst₂ (λ (l : List ℕ) (k : ℕ). Puts l old at (set new (at + i) x) k) (sym e) next (puts-append p (record { behind = refl; places = refl }))
 
 -- room for two texts is room for the first, and then for the second
 pub room-first : (xs ys old : List ℕ) (at : ℕ) → at + length (xs ++ ys) ≤ length old → at + length xs ≤ length old

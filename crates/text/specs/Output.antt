@@ -17,7 +17,7 @@ unfoldable pub decimalBy : ℕ → ℕ → List ℕ
 decimalBy zero x = digitCharacter (x % 10) ∷ []
 decimalBy (suc k) x = let high = decimalBy k (x / 10) in cond (ltb x 10) [] high ++ (digitCharacter (x % 10) ∷ [])
 
--- x in decimal: no number has more digits than its value and one
+-- x in decimal: x itself bounds the number of its digits
 abbrev pub decimal : ℕ → List ℕ
 decimal x = decimalBy x x
 

@@ -1,12 +1,12 @@
 -- `text::input::feed` meets its contract: at each turn the bytes before i are read. Assumes nothing.
-use mathlib.Core.Path.{_≡_, refl, sym, ap, _∙_, subst}
+use mathlib.Core.Path.{_≡_, refl, sym, _∙_, subst}
 use mathlib.Core.List.{List, [], _∷_}
 use Prim.Native.Nat.{ℕ, _+_, _-_, _<_, _≤_}
-use native.Mathlib.Numerals.{add-one}
 use native.Mathlib.Omega.{arith}
 use lib.ListN.{length, getD, take}
-use lib.Seq.{take-suc, take-all}
+use lib.Seq.{take-all}
 use borrow.Author.Needs.{needs}
+use Rattle.cube.proofs.Fronts.{take-more}
 use Rattle.text.specs.Reading.{Takes}
 use Rattle.text.specs.declared.input.Reading.{Reading}
 use Rattle.text.proofs.Readings.{takes-none, takes-more}
@@ -22,7 +22,7 @@ abbrev μ-loop : tie.MeasureT-loop
 one-more : {first second third : Reading} {a b c : List ℕ} (piece : List ℕ) (i : ℕ) → i < length piece → Takes first a (take i piece) second b
     → Takes second b (getD piece i 0 ∷ []) third c → Takes first a (take (i + 1) piece) third c
 one-more {first} {third = third} {a = a} {c = c} piece i l h g =
-    subst (λ (xs : List ℕ). Takes first a xs third c) (sym (ap (λ (k : ℕ). take k piece) (add-one i) ∙ take-suc piece i 0 l))
+    subst (λ (xs : List ℕ). Takes first a xs third c) (sym (take-more piece i l))
     (takes-more (take i piece) (getD piece i 0 ∷ []) h g)
 
 all-read : {first second : Reading} {a b : List ℕ} (piece : List ℕ) (i : ℕ) → length piece ≤ i → Takes first a (take i piece) second b → Takes first a piece second b

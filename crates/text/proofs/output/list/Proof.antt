@@ -11,7 +11,7 @@ use Rattle.text.proofs.Lines.{puts-append, puts-front, room-second, lin
 use Rattle.text.proofs.output.list.Statement.{statement}
 use Rattle.text.proofs.output.list.Tie as tie
 
--- the rows of the two arrays
+-- the lines of the rows in the two arrays
 abbrev given : tie.Start → List ℕ
 given c = listLines (c .args .n) (firstRows (c .args .count) (c .args .values .now) (c .args .cares .now))
 
@@ -36,13 +36,17 @@ rows-requires : tie.Need-rows-requires
 rows-requires c κs = search needs
 
 totals-requires : tie.Need-totals-requires
-totals-requires c κs = let s = c .before .before .before .before .before .before .before .before in room-second {xs = given s} (totals (s .args .count) (s .args .bits)) (c .before .before .before .rows .ensures) (from-front s)
+totals-requires c κs =
+    let s = c .before .before .before .before .before .before .before .before in
+    room-second {xs = given s} (totals (s .args .count) (s .args .bits)) (c .before .before .before .rows .ensures) (from-front s)
 
 same-length : tie.Need-same-length
 same-length c = search needs
 
 returns : tie.Need-returns
-returns c = puts-front (room (c .before .before .before .before .before .before .before .before .before .before .before)) (puts-append (c .before .before .before .before .before .before .rows .ensures) (c .before .before .totals .ensures))
+returns c =
+    let s = c .before .before .before .before .before .before .before .before .before .before .before in
+    puts-front (room s) (puts-append {xs = given s} (c .before .before .before .before .before .before .rows .ensures) (c .before .before .totals .ensures))
 
 pub list-spec : {M : Type 1} → statement M
 list-spec = tie.close (tie.spec rows-requires totals-requires same-length returns)

@@ -9,7 +9,9 @@ word-requires : tie.Need-word-requires
 word-requires c κs = let s = c .before .before .before in room-first (s .args .text .now) (decimal (s .args .x)) (s .args .out .now) (s .args .at) (s .pre)
 
 decimal-requires : tie.Need-decimal-requires
-decimal-requires c κs = let s = c .before .before .before .before .before .before .before in room-second (decimal (s .args .x)) (c .before .before .before .word .ensures) (s .pre)
+decimal-requires c κs =
+    let s = c .before .before .before .before .before .before .before in
+    room-second (decimal (s .args .x)) (c .before .before .before .word .ensures) (s .pre)
 
 same-length : tie.Need-same-length
 same-length c = search needs

@@ -31,7 +31,9 @@ same-length : tie.Need-same-length
 same-length c = search needs
 
 returns : tie.Need-returns
-returns c = puts-front (room (c .before .before .before .before .before .before .before .before .before .before)) (puts-append (c .before .before .before .before .before .before .number .ensures) (c .before .before .line-feed .ensures))
+returns c =
+    let s = c .before .before .before .before .before .before .before .before .before .before in
+    puts-front (room s) (puts-append (c .before .before .before .before .before .before .number .ensures) (c .before .before .line-feed .ensures))
 
 pub refusal-spec : {M : Type 1} → statement M
 refusal-spec = tie.close (tie.spec slice-aggregate-number number-requires line-feed-requires same-length returns)

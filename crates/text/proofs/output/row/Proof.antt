@@ -1,37 +1,32 @@
 -- `text::output::row` meets its contract: at each turn the characters of the variables before x(i + 1) are written. Assumes nothing.
-use mathlib.Core.Path.{_≡_, sym, ap, _∙_, subst, subst₂}
+use mathlib.Core.Path.{_≡_, sym, ap, _∙_, subst}
 use mathlib.Core.List.{List, [], _∷_, _++_}
 use Prim.Native.Nat.{ℕ, _+_, _-_, _≤_}
-use native.Mathlib.Nat.{add-zero}
 use native.Mathlib.Numerals.{add-one}
 use native.Mathlib.Omega.{arith}
-use lib.ListN.{length, set}
+use lib.ListN.{length}
 use borrow.Author.Needs.{needs}
 use Rattle.cube.specs.Below.{run}
 use Rattle.cube.specs.Calls.{widest}
 use Rattle.cube.proofs.Below.{run-more}
 use Rattle.text.specs.Output.{characterOfVariable}
 use Rattle.text.specs.Printing.{Puts}
-use Rattle.text.proofs.Lines.{puts-none, puts-one, puts-append, puts-long}
+use Rattle.text.proofs.Lines.{puts-start, puts-turn, puts-append, puts-long}
 use Rattle.text.proofs.output.row.Statement.{statement}
 use Rattle.text.proofs.output.row.Tie as tie
 
-module _ (f : ℕ → ℕ) (old : List ℕ) (at : ℕ) where
-  none : Puts (run 0 1 f) old at old (at + 0)
+module _ (f : ℕ → ℕ) where
+  none : (old : List ℕ) (at : ℕ) → Puts (run 0 1 f) old at old (at + 0)
   unfolding run
-  none = subst (Puts [] old at old) (sym (add-zero at)) (puts-none old at)
+  none old at = puts-start old at
 
-  module _ (new : List ℕ) (i : ℕ) (h : Puts (run i 1 f) old at new (at + i)) where
-    one : (x : ℕ) → x ≡ f (i + 1) → Puts (run (i + 1) 1 f) old at (set new (at + i) x) (at + (i + 1))
-    one x e =
-        let next : at + i + 1 ≡ at + (i + 1) = omega arith in
-        let place : 1 + i ≡ i + 1 = omega arith in
-        let more : run (i + 1) 1 f ≡ run i 1 f ++ (x ∷ []) =
-        ap (λ (k : ℕ). run k 1 f) (add-one i) ∙ run-more f i 1 ∙ ap (λ (y : ℕ). run i 1 f ++ (y ∷ [])) (ap f place ∙ sym e) in
-        subst₂ (λ (xs : List ℕ) (k : ℕ). Puts xs old at (set new (at + i) x) k) (sym more) next (puts-one x h)
+  one-more : (i x : ℕ) → x ≡ f (i + 1) → run (i + 1) 1 f ≡ run i 1 f ++ (x ∷ [])
+  one-more i x e =
+      let next : 1 + i ≡ i + 1 = omega arith in
+      ap (λ (k : ℕ). run k 1 f) (add-one i) ∙ run-more f i 1 ∙ ap (λ (y : ℕ). run i 1 f ++ (y ∷ [])) (ap f next ∙ sym e)
 
-    all : (n : ℕ) → i ≡ n → Puts (run n 1 f) old at new (at + n)
-    all n e = subst (λ (k : ℕ). Puts (run k 1 f) old at new (at + k)) e h
+  all : {old new : List ℕ} {at : ℕ} (i n : ℕ) → i ≡ n → Puts (run i 1 f) old at new (at + i) → Puts (run n 1 f) old at new (at + n)
+  all {old} {new} {at} i n e h = subst (λ (k : ℕ). Puts (run k 1 f) old at new (at + k)) e h
 
 abbrev Inv-loop : tie.InvT-loop
 Inv-loop n value care out₀ at i₀ out i =
@@ -62,7 +57,7 @@ loop-less : tie.Need-loop-less Inv-loop μ-loop
 loop-less c = omega arith
 
 loop-again : tie.Need-loop-again Inv-loop μ-loop
-loop-again c = let i = c .before .before .loop .inv in (i .0, i .1, omega arith, one _ _ _ _ _ (i .3) _ (c .character .ensures))
+loop-again c = let i = c .before .before .loop .inv in (i .0, i .1, omega arith, puts-turn _ _ (one-more _ _ _ (c .character .ensures)) (i .3))
 
 add-line-feed : tie.Need-add-line-feed Inv-loop μ-loop
 add-line-feed c = omega arith
@@ -74,7 +69,7 @@ same-length : tie.Need-same-length Inv-loop μ-loop
 same-length c = c .before .before .line-feed .kept .0 ∙ puts-long (c .before .before .before .before .before .loop .inv .3)
 
 returns : tie.Need-returns Inv-loop μ-loop
-returns c = puts-append (all _ _ _ _ _ (c .before .before .before .before .before .loop .inv .3) _ (omega arith)) (c .before .before .line-feed .ensures)
+returns c = puts-append (all _ _ _ (omega arith) (c .before .before .before .before .before .loop .inv .3)) (c .before .before .line-feed .ensures)
 
 pub row-spec : {M : Type 1} → statement M
 row-spec =

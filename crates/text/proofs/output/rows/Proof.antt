@@ -45,7 +45,9 @@ abbrev μ-loop : tie.MeasureT-loop
 μ-loop n values cares count out₀ at place₀ i₀ out place i = count - i
 
 loop-holds : tie.Need-loop-holds Inv-loop μ-loop
-loop-holds c = (search needs, search needs, search needs, search needs, search needs, none _ (c .before .before .before .args .values .now) (c .before .before .before .args .cares .now) _ _)
+loop-holds c =
+    let s = c .before .before .before in
+    (search needs, search needs, search needs, search needs, search needs, none _ (s .args .values .now) (s .args .cares .now) _ _)
 
 shared-slice-read-row : tie.Need-shared-slice-read-row Inv-loop μ-loop
 shared-slice-read-row c = omega arith
@@ -57,7 +59,8 @@ row-requires : tie.Need-row-requires Inv-loop μ-loop
 row-requires c κs =
     let s = c .before .before .before .before .before .before .before .before in
     let i = c .before .before .before .before .loop .inv in
-    (i .0, omega (arith, few (s .args .n) (s .args .values .now) (s .args .cares .now) (s .args .out .now) (s .args .at) (c .before .before .before .before .loop .i) _ _ (i .5) (i .0) (omega arith) (omega arith), puts-long (i .5)))
+    let place = few (s .args .n) (s .args .values .now) (s .args .cares .now) (s .args .out .now) (s .args .at) (c .before .before .before .before .loop .i) _ _ (i .5) (i .0) in
+    (i .0, omega (arith, place (omega arith) (omega arith), puts-long (i .5)))
 
 add-i : tie.Need-add-i Inv-loop μ-loop
 add-i c = omega arith
@@ -69,7 +72,8 @@ loop-again : tie.Need-loop-again Inv-loop μ-loop
 loop-again c =
     let s = c .before .before .before .before .before .before .before .before .before .before .before in
     let i = c .before .before .before .before .before .before .before .loop .inv in
-    (i .0, i .1, i .2, i .3, omega arith, one (s .args .n) (s .args .values .now) (s .args .cares .now) (s .args .out .now) (s .args .at) _ _ _ (i .5) (omega arith) (omega arith) _ _ (c .before .before .row .ensures))
+    let next = one (s .args .n) (s .args .values .now) (s .args .cares .now) (s .args .out .now) (s .args .at) (c .before .before .before .before .before .before .before .loop .i) (c .before .before .before .before .before .before .before .loop .out) (c .before .before .before .before .before .before .before .loop .place) (i .5) in
+    (i .0, i .1, i .2, i .3, omega arith, next (omega arith) (omega arith) _ _ (c .before .before .row .ensures))
 
 same-length : tie.Need-same-length Inv-loop μ-loop
 same-length c = puts-long (c .before .loop .inv .5)

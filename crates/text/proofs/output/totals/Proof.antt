@@ -31,16 +31,23 @@ number-requires-2 : tie.Need-number-requires-2
 number-requires-2 c κs =
     let s = c .before .before .before .before .before .before .before .before in
     let both : List ℕ = first (s .args .rows) ++ second (s .args .bits) in
-    room-second (second (s .args .bits)) (c .before .before .before .before .number .ensures) (room-first both (lineFeed ∷ []) (s .args .out .now) (s .args .at) (s .pre))
+    room-second (second (s .args .bits)) (c .before .before .before .before .number .ensures)
+    (room-first both (lineFeed ∷ []) (s .args .out .now) (s .args .at) (s .pre))
 
 line-feed-requires : tie.Need-line-feed-requires
-line-feed-requires c κs = room-last lineFeed (puts-append (c .before .before .before .before .before .before .before .before .number .ensures) (c .before .before .before .number2 .ensures)) (c .before .before .before .before .before .before .before .before .before .before .before .before .pre)
+line-feed-requires c κs =
+    let rows = c .before .before .before .before .before .before .before .before .number in
+    let bits = c .before .before .before .number2 in
+    room-last lineFeed (puts-append (rows .ensures) (bits .ensures)) (c .before .before .before .before .before .before .before .before .before .before .before .before .pre)
 
 same-length : tie.Need-same-length
 same-length c = search needs
 
 returns : tie.Need-returns
-returns c = puts-append (puts-append (c .before .before .before .before .before .before .before .before .before .before .before .number .ensures) (c .before .before .before .before .before .before .number2 .ensures)) (c .before .before .line-feed .ensures)
+returns c =
+    let rows = c .before .before .before .before .before .before .before .before .before .before .before .number in
+    let bits = c .before .before .before .before .before .before .number2 in
+    puts-append (puts-append (rows .ensures) (bits .ensures)) (c .before .before .line-feed .ensures)
 
 pub totals-spec : {M : Type 1} → statement M
 totals-spec =
