@@ -98,7 +98,7 @@ def main(names):
         if counts != [int(x) for x in said]:
             wrong += 1
             print(name, 'says', *said, 'and is', *counts)
-    print('%d examples, %d wrong' % (done, wrong))
+    print('%d passed, %d failed' % (done - wrong, wrong))
     return 1 if wrong or not done else 0
 
 

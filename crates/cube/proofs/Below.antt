@@ -1,16 +1,17 @@
--- The laws of the numbers below a bound: every, some, those and run, each by induction on the bound; and how many of those that pass pass another test.
--- Assumes nothing.
+-- The laws of the numbers below a bound: every, some, those, the lowest of those and run, each by induction on the bound; and how many of those that
+-- pass pass another test. Assumes nothing.
 use mathlib.Core.Path.{_≡_, refl, sym, ap, ap₂, _∙_, subst, subst⁻¹}
-use mathlib.Core.Logic.{_⊎_, ⊎-elim}
+use mathlib.Core.Logic.{_⊎_, inl, inr, ⊎-elim}
 use mathlib.Core.Bool.{Bool, true, false, cond, not, _&&_, _||_}
 use mathlib.Core.List.{List, [], _∷_, _++_, append-nil, append-assoc}
 use Prim.Native.Nat.{ℕ, zero, suc, _+_, _<_, _≤_}
 use native.Mathlib.Nat.{not-suc-le-zero, le-of-suc-le-suc, eq-or-lt-of-le, lt-suc-self, add-zero, zero-add, add-suc, suc-add}
 use native.Mathlib.Omega.{arith}
 use lib.Dec.{T, eqb, eqb→eq, eqb-refl}
-use lib.ListN.{length, length-append, getD}
+use lib.ListN.{length, length-append, getD, List·getD-append}
+use lib.Seq.{getD-append-seam}
 use Rattle.cube.specs.Below.{flag, every, some, those, count, Lists, run}
-use Rattle.cube.proofs.Bools.{and-l, and-r, and-i, or-e, or-l, or-r, not-e, not-i, same, is-true, is-false, holds, lt-or-le}
+use Rattle.cube.proofs.Bools.{and-l, and-r, and-i, or-e, or-l, or-r, or-exchange, not-e, not-i, same, is-true, is-false, holds, lt-or-le}
 
 -- ---- every and some
 
@@ -65,6 +66,12 @@ unfolding some
 some-same zero f g e = refl
 some-same (suc m) f g e = ap₂ _||_ (e m (lt-suc-self m)) (some-same m f g (λ k l. e k (omega arith)))
 
+-- the number 0 first, and the others one on
+pub some-front : (m : ℕ) (f : ℕ → Bool) → some (suc m) f ≡ (f 0 || some m (λ k. f (suc k)))
+unfolding some
+some-front zero f = refl
+some-front (suc m) f = ap (λ (b : Bool). f (suc m) || b) (some-front m f) ∙ or-exchange (f (suc m)) (f 0) (some m (λ k. f (suc k)))
+
 -- ---- those that pass
 
 pub those-same : (m : ℕ) (f g : ℕ → Bool) → ((c : ℕ) → c < m → f c ≡ g c) → those m f ≡ those m g
@@ -96,6 +103,47 @@ those-one (suc m) f v l h e =
 
     there : v < m → those m f ≡ v ∷ [] → those m f ++ cond (f m) (m ∷ []) [] ≡ v ∷ []
     there x ih = joined ih (is-false (f m) (λ y. let z : m ≡ v = e m (lt-suc-self m) y in omega arith))
+
+-- k is the lowest number below m that passes
+pub record Lowest (m : ℕ) (f : ℕ → Bool) (k : ℕ) : Type 0 where
+  pub below : k < m
+  pub passes : T (f k)
+  pub none-lower : (j : ℕ) → j < k → T (f j) → ⊥
+
+-- the first of those that pass is the lowest
+pub those-lowest : (m : ℕ) (f : ℕ → Bool) (k : ℕ) → Lowest m f k → (rest : List ℕ) × (those m f ≡ k ∷ rest)
+unfolding those
+those-lowest zero f k h = absurd (not-suc-le-zero (h .below))
+those-lowest (suc m) f k h =
+    ⊎-elim here (λ l. there (those-lowest m f k (record { below = l; passes = h .passes; none-lower = h .none-lower })))
+    (eq-or-lt-of-le (le-of-suc-le-suc (h .below)))
+  where
+    last : List ℕ
+    last = cond (f m) (m ∷ []) []
+
+    here : k ≡ m → (rest : List ℕ) × (those m f ++ last ≡ k ∷ rest)
+    here e = (
+      [],
+      ap₂ (λ (l : List ℕ) (b : Bool). l ++ cond b (m ∷ []) []) (those-none m f (λ j l. h .none-lower j (omega arith)))
+          (is-true (f m) (subst (λ (i : ℕ). T (f i)) e (h .passes)))
+          ∙ ap (λ (i : ℕ). i ∷ []) (sym e),
+    )
+
+    there : (rest : List ℕ) × (those m f ≡ k ∷ rest) → (rest : List ℕ) × (those m f ++ last ≡ k ∷ rest)
+    there r = (r .0 ++ last, ap (λ (l : List ℕ). l ++ last) (r .1))
+
+pub lowest-or-none : (m : ℕ) (f : ℕ → Bool) → ((k : ℕ) × Lowest m f k) ⊎ ((k : ℕ) → k < m → T (f k) → ⊥)
+lowest-or-none zero f = inr (λ k l x. not-suc-le-zero l)
+lowest-or-none (suc m) f = ⊎-elim found (λ none. go none (f m) refl) (lowest-or-none m f)
+  where
+    found : (k : ℕ) × Lowest m f k → ((k : ℕ) × Lowest (suc m) f k) ⊎ ((k : ℕ) → k < suc m → T (f k) → ⊥)
+    found r = let l : r .0 < m = r .1 .below in inl (r .0, record { below = omega arith; passes = r .1 .passes; none-lower = r .1 .none-lower })
+
+    go : ((k : ℕ) → k < m → T (f k) → ⊥) → (b : Bool) → f m ≡ b
+        → ((k : ℕ) × Lowest (suc m) f k) ⊎ ((k : ℕ) → k < suc m → T (f k) → ⊥)
+    go none true e = inl (m, record { below = lt-suc-self m; passes = holds (f m) e; none-lower = none })
+    go none false e =
+        inr (λ k l x. ⊎-elim (λ i. subst T (ap f i ∙ e) x) (λ i. none k i x) (eq-or-lt-of-le (le-of-suc-le-suc l)))
 
 -- f is g below s and h from s on
 module _ (f g h : ℕ → Bool) (s : ℕ) where
@@ -162,6 +210,10 @@ module _ (f : ℕ → Bool) where
       ⊎-elim (λ e. subst⁻¹ (λ (i : ℕ). length (those i f) ≤ length (those (suc m) f)) e (omega arith))
       (λ k. omega (arith, count-suc m, count-more a m (le-of-suc-le-suc k))) (eq-or-lt-of-le l)
 
+  -- before one that passes there are fewer
+  pub count-found : (i m : ℕ) → i < m → f i ≡ true → length (those i f) < length (those m f)
+  count-found i m l e = omega (arith, count-suc i, ap flag e, count-more (suc i) m l)
+
   -- where one passes, two that pass are the same
   one-passes : (m i j : ℕ) → length (those m f) ≡ 1 → i < m → j < m → T (f i) → T (f j) → i ≡ j
   one-passes m i j e l k x y =
@@ -184,7 +236,7 @@ count-append g (x ∷ xs) ys = omega (arith, count-append g xs ys)
 
 module _ (f g : ℕ → Bool) where
   -- of those that pass one test, so many pass another as pass both
-  count-those : (m : ℕ) → count g (those m f) ≡ length (those m (λ i. f i && g i))
+  pub count-those : (m : ℕ) → count g (those m f) ≡ length (those m (λ i. f i && g i))
   unfolding count those
   count-those zero = refl
   count-those (suc m) = omega (arith, count-append g (those m f) (cond (f m) (m ∷ []) []), count-those m, count-suc (λ i. f i && g i) m, last (f m))
@@ -213,6 +265,66 @@ those-lists m f P to from = record {
   where
     absent : (q : ℕ) → (P q → ⊥) → (i : ℕ) → i < m → T (f i && eqb q i) → ⊥
     absent q not-p i l h = not-p (subst⁻¹ P (eqb→eq q i (and-r (f i) (eqb q i) h)) (to i l (and-l (f i) (eqb q i) h)))
+
+-- ---- the places of those that pass
+
+-- the list holds numbers below m that pass, ascending
+record Passing (f : ℕ → Bool) (m : ℕ) (xs : List ℕ) : Type 0 where
+  at : (i : ℕ) → i < length xs → (getD xs i 0 < m) × T (f (getD xs i 0))
+  ascends : (i j : ℕ) → i < j → j < length xs → getD xs i 0 < getD xs j 0
+
+passing-more : (f : ℕ → Bool) (m : ℕ) (xs : List ℕ) → Passing f m xs → (b : Bool) → f m ≡ b → Passing f (suc m) (xs ++ cond b (m ∷ []) [])
+passing-more f m xs p false e = subst⁻¹ (Passing f (suc m)) (append-nil xs) (record { at = λ i l. let h = p .at i l in (omega (arith, h .0), h .1); ascends = p .ascends })
+passing-more f m xs p true e = record { at = at; ascends = ascends }
+  where
+    place : (i : ℕ) → i < length (xs ++ (m ∷ [])) → (i < length xs) ⊎ (i ≡ length xs)
+    place i l = ⊎-elim (λ k. inl k) (λ k. let h : length (xs ++ (m ∷ [])) ≡ length xs + 1 = length-append xs (m ∷ []) in inr (omega arith)) (lt-or-le i (length xs))
+
+    last : (i : ℕ) → i ≡ length xs → getD (xs ++ (m ∷ [])) i 0 ≡ m
+    last i k = ap (λ (j : ℕ). getD (xs ++ (m ∷ [])) j 0) k ∙ getD-append-seam xs m [] 0
+
+    at : (i : ℕ) → i < length (xs ++ (m ∷ [])) → (getD (xs ++ (m ∷ [])) i 0 < suc m) × T (f (getD (xs ++ (m ∷ [])) i 0))
+    at i l =
+        ⊎-elim (λ k. subst⁻¹ (λ (x : ℕ). (x < suc m) × T (f x)) (List·getD-append xs (m ∷ []) 0 i k) (let h = p .at i k in (omega (arith, h .0), h .1)))
+        (λ k. subst⁻¹ (λ (x : ℕ). (x < suc m) × T (f x)) (last i k) (lt-suc-self m, holds (f m) e)) (place i l)
+
+    ascends : (i j : ℕ) → i < j → j < length (xs ++ (m ∷ [])) → getD (xs ++ (m ∷ [])) i 0 < getD (xs ++ (m ∷ [])) j 0
+    ascends i j l k =
+        ⊎-elim (λ h. omega (arith, List·getD-append xs (m ∷ []) 0 i (omega arith), List·getD-append xs (m ∷ []) 0 j h, p .ascends i j l h))
+        (λ h. omega (arith, List·getD-append xs (m ∷ []) 0 i (omega arith), last j h, p .at i (omega arith) .0)) (place j k)
+
+passing : (f : ℕ → Bool) (m : ℕ) → Passing f m (those m f)
+unfolding those
+passing f zero = record { at = λ i l. absurd (not-suc-le-zero l); ascends = λ i j a l. absurd (not-suc-le-zero l) }
+passing f (suc m) = passing-more f m (those m f) (passing f m) (f m) refl
+
+module _ (f : ℕ → Bool) where
+  -- what stands at a place passes
+  pub those-at : (m i : ℕ) → i < length (those m f) → (getD (those m f) i 0 < m) × T (f (getD (those m f) i 0))
+  those-at m = passing f m .at
+
+  pub those-ascend : (m i j : ℕ) → i < j → j < length (those m f) → getD (those m f) i 0 < getD (those m f) j 0
+  those-ascend m = passing f m .ascends
+
+  -- one that passes stands at a place
+  pub those-place : (m q : ℕ) → q < m → T (f q) → (i : ℕ) × (i < length (those m f)) × (getD (those m f) i 0 ≡ q)
+  unfolding those
+  those-place zero q l h = absurd (not-suc-le-zero l)
+  those-place (suc m) q l h = ⊎-elim here (λ k. before (those-place m q k h)) (eq-or-lt-of-le (le-of-suc-le-suc l))
+    where
+      here : q ≡ m → (i : ℕ) × (i < length (those m f ++ cond (f m) (m ∷ []) [])) × (getD (those m f ++ cond (f m) (m ∷ []) []) i 0 ≡ q)
+      here e =
+          subst⁻¹ (λ (b : Bool). (i : ℕ) × (i < length (those m f ++ cond b (m ∷ []) [])) × (getD (those m f ++ cond b (m ∷ []) []) i 0 ≡ q))
+          (is-true (f m) (subst (λ (x : ℕ). T (f x)) e h))
+          (length (those m f), omega (arith, length-append (those m f) (m ∷ [])), getD-append-seam (those m f) m [] 0 ∙ sym e)
+
+      before : (i : ℕ) × (i < length (those m f)) × (getD (those m f) i 0 ≡ q)
+          → (i : ℕ) × (i < length (those m f ++ cond (f m) (m ∷ []) [])) × (getD (those m f ++ cond (f m) (m ∷ []) []) i 0 ≡ q)
+      before r = (
+        r .0,
+        omega (arith, r .1, length-append (those m f) (cond (f m) (m ∷ []) [])),
+        List·getD-append (those m f) (cond (f m) (m ∷ []) []) 0 (r .0) (r .1) ∙ r .2,
+      )
 
 -- ---- a function's values
 

@@ -32,6 +32,15 @@ pub or-r : (a b : Bool) → T b → T (a || b)
 or-r true b h = tt
 or-r false b h = h
 
+pub or-exchange : (a b c : Bool) → (a || (b || c)) ≡ (b || (a || c))
+or-exchange true true c = refl
+or-exchange true false c = refl
+or-exchange false b c = refl
+
+pub not-and : (a b : Bool) → not (a && b) ≡ (not a || not b)
+not-and true b = refl
+not-and false b = refl
+
 -- `not a || b` is a → b
 pub imp-e : (a b : Bool) → T (not a || b) → T a → T b
 imp-e true b h x = h

@@ -1,18 +1,20 @@
--- What the calls share: a width that is not refused, the first condition that holds, and the two ways in which a
--- call that writes a list ends. Assumes nothing.
+-- What the calls share: the first condition that holds, and conditions behind others; a width, a table and a list that are not refused; and the
+-- two ways in which a call that writes a list ends. Assumes nothing.
 use mathlib.Core.Path.{_≡_, refl, sym, ap, _∙_}
-use mathlib.Core.Bool.{Bool, true, false, cond, _||_, true≢false}
+use mathlib.Core.Bool.{Bool, true, false, cond, not, _&&_, _||_, true≢false}
 use mathlib.Core.List.{List, [], _∷_, _++_}
 use Prim.Native.Nat.{ℕ, suc, _^_, _≤_}
 use native.Mathlib.Nat.{pow-le-pow-right}
 use native.Mathlib.Omega.{arith}
-use lib.Dec.{eqb, ltb, lit<}
+use lib.Dec.{T, eqb, ltb, lit<}
 use lib.ListN.{length}
 use lib.Pow.{pow-mono}
 use lib.Seq.{sets}
 use borrow.Author.Tests.{ltb-false, eqb-true, not-false}
-use Rattle.cube.specs.Calls.{widest, badWidth, badLength, badCell, Condition, when, firstOf, tableConditions, answered, written, Listed}
+use Rattle.cube.specs.Words.{allFormed, rowsOf}
+use Rattle.cube.specs.Calls.{widest, badWidth, badLength, badCell, unequalLengths, mostRows, tooManyRows, badRow, Condition, when, firstOf, tableConditions, listConditions, answered, written, Listed}
 use Rattle.cube.specs.declared.Counted.the-variants.{Count, Refused}
+use Rattle.cube.proofs.Bools.{and-l, and-r, not-e, eqb-of}
 use Rattle.cube.proofs.Lent.{sets-front}
 
 -- ---- a good width
@@ -41,6 +43,36 @@ first-holds b k rest e = ap (λ (x : Bool). cond x k (firstOf rest)) e
 pub first-passes : (b : Bool) (k : ℕ) (rest : List Condition) → b ≡ false → firstOf (when b k ∷ rest) ≡ firstOf rest
 first-passes b k rest e = ap (λ (x : Bool). cond x k (firstOf rest)) e
 
+-- where none holds, the first does not, and none of the rest
+none-first : (b : Bool) (k : ℕ) (rest : List Condition) → firstOf (when b (suc k) ∷ rest) ≡ 0 → (b ≡ false) × (firstOf rest ≡ 0)
+none-first true k rest e = absurd (omega arith)
+none-first false k rest e = (refl, e)
+
+-- every condition has a number
+abbrev pub numbered : List Condition → Bool
+numbered [] = true
+numbered (x ∷ xs) = not (eqb (x .number) 0) && numbered xs
+
+-- conditions behind others: those in front refuse first, and where none of them holds it is on those behind
+pub conditions-refuse : (xs ys : List Condition) (k : ℕ) → firstOf xs ≡ suc k → firstOf (xs ++ ys) ≡ suc k
+conditions-refuse [] ys k e = absurd (omega arith)
+conditions-refuse (x ∷ xs) ys k e = go (x .holds) e (conditions-refuse xs ys k)
+  where
+    go : (b : Bool) → cond b (x .number) (firstOf xs) ≡ suc k → (firstOf xs ≡ suc k → firstOf (xs ++ ys) ≡ suc k)
+        → cond b (x .number) (firstOf (xs ++ ys)) ≡ suc k
+    go true h rest = h
+    go false h rest = rest h
+
+pub conditions-pass : (xs ys : List Condition) → T (numbered xs) → firstOf xs ≡ 0 → firstOf (xs ++ ys) ≡ firstOf ys
+conditions-pass [] ys n e = refl
+conditions-pass (x ∷ xs) ys n e =
+    go (x .holds) e (conditions-pass xs ys (and-r (not (eqb (x .number) 0)) (numbered xs) n))
+  where
+    go : (b : Bool) → cond b (x .number) (firstOf xs) ≡ 0 → (firstOf xs ≡ 0 → firstOf (xs ++ ys) ≡ firstOf ys)
+        → cond b (x .number) (firstOf (xs ++ ys)) ≡ firstOf ys
+    go true h rest = absurd (not-e (eqb (x .number) 0) (and-l (not (eqb (x .number) 0)) (numbered xs) n) (eqb-of (x .number) 0 h))
+    go false h rest = rest h
+
 -- ---- a table that is not refused
 
 pub record Accepted (n : ℕ) (t : List ℕ) : Type 0 where
@@ -49,38 +81,42 @@ pub record Accepted (n : ℕ) (t : List ℕ) : Type 0 where
   pub cells : length t ≡ 2 ^ n
   pub meant : badCell t ≡ false
 
-none-of : (a b c : Bool) → _≡_ {A = ℕ} (cond a 1 (cond b 2 (cond c 3 0))) 0 → (a ≡ false) × (b ≡ false) × (c ≡ false)
-none-of true b c e = absurd (omega arith)
-none-of false true c e = absurd (omega arith)
-none-of false false true e = absurd (omega arith)
-none-of false false false e = (refl, refl, refl)
-
-one-of : (a b c : Bool) (k rest : ℕ) → cond a 1 (cond b 2 (cond c 3 0)) ≡ suc k → cond a 1 (cond b 2 (cond c 3 rest)) ≡ suc k
-one-of true b c k rest e = e
-one-of false true c k rest e = e
-one-of false false true k rest e = e
-one-of false false false k rest e = absurd (omega arith)
-
 module _ (n : ℕ) (t : List ℕ) where
   pub accepted : firstOf (tableConditions n t) ≡ 0 → Accepted n t
   accepted e =
-      let f = none-of (badWidth n) (badLength n t) (badCell t) e in
+      let a = none-first (badWidth n) 0 (when (badLength n t) 2 ∷ when (badCell t) 3 ∷ []) e in
+      let b = none-first (badLength n t) 1 (when (badCell t) 3 ∷ []) (a .1) in
       record {
-        from = width-from n (f .0);
-        to = width-to n (f .0);
-        cells = eqb-true (length t) (2 ^ n) (not-false (eqb (length t) (2 ^ n)) (f .1));
-        meant = f .2;
+        from = width-from n (a .0);
+        to = width-to n (a .0);
+        cells = eqb-true (length t) (2 ^ n) (not-false (eqb (length t) (2 ^ n)) (b .0));
+        meant = none-first (badCell t) 2 [] (b .1) .0;
       }
 
   -- the conditions of a call behind those of the table
   pub table-passes : (rest : List Condition) → firstOf (tableConditions n t) ≡ 0 → firstOf (tableConditions n t ++ rest) ≡ firstOf rest
-  table-passes rest e =
-      let f = none-of (badWidth n) (badLength n t) (badCell t) e in
-      first-passes (badWidth n) 1 (when (badLength n t) 2 ∷ when (badCell t) 3 ∷ rest) (f .0)
-      ∙ first-passes (badLength n t) 2 (when (badCell t) 3 ∷ rest) (f .1) ∙ first-passes (badCell t) 3 rest (f .2)
+  table-passes rest e = conditions-pass (tableConditions n t) rest tt e
 
   pub table-refuses : (rest : List Condition) (k : ℕ) → firstOf (tableConditions n t) ≡ suc k → firstOf (tableConditions n t ++ rest) ≡ suc k
-  table-refuses rest k e = one-of (badWidth n) (badLength n t) (badCell t) k (firstOf rest) e
+  table-refuses rest k e = conditions-refuse (tableConditions n t) rest k e
+
+-- ---- a list that is not refused
+
+pub record AcceptedList (n : ℕ) (vs ws : List ℕ) : Type 0 where
+  pub equal : length vs ≡ length ws
+  pub few : length (rowsOf vs ws) ≤ mostRows
+  pub formed : allFormed n (rowsOf vs ws) ≡ true
+
+pub accepted-list : (n : ℕ) (vs ws : List ℕ) → firstOf (listConditions n vs ws) ≡ 0 → AcceptedList n vs ws
+accepted-list n vs ws e =
+    let rs = rowsOf vs ws in
+    let a = none-first (unequalLengths vs ws) 4 (when (tooManyRows (length rs)) 6 ∷ when (badRow n rs) 7 ∷ []) e in
+    let b = none-first (tooManyRows (length rs)) 5 (when (badRow n rs) 7 ∷ []) (a .1) in
+    record {
+      equal = eqb-true (length vs) (length ws) (not-false (eqb (length vs) (length ws)) (a .0));
+      few = ltb-false mostRows (length rs) (b .0);
+      formed = not-false (allFormed n rs) (none-first (badRow n rs) 6 [] (b .1) .0);
+    }
 
 -- ---- a call that writes a list
 

@@ -45,7 +45,7 @@ total [] = 0
 total (m ∷ ms) = m .least + total ms
 
 -- a formed row whose cube is an implicant
-abbrev sound : ℕ → List ℕ → Row → Bool
+abbrev pub sound : ℕ → List ℕ → Row → Bool
 sound n t r = formed n r && implicant n t (numberOf n r)
 
 -- the list matches the code of each mark
@@ -167,7 +167,7 @@ module _ (n : ℕ) (t : List ℕ) where
 
   -- the rows of a right list are sound and meet every mark
   module _ (rs : Cover) (g : T (implements n t rs)) where
-    rows-sound : (ps : Cover) → ((c : ℕ) → T (coverMatches ps c) → T (coverMatches rs c)) → T (allFormed n ps) → T (eachRow (sound n t) ps)
+    pub rows-sound : (ps : Cover) → ((c : ℕ) → T (coverMatches ps c) → T (coverMatches rs c)) → T (allFormed n ps) → T (eachRow (sound n t) ps)
     unfolding eachRow coverMatches
     rows-sound [] h f = tt
     rows-sound (r ∷ ps) h f =

@@ -12,4 +12,7 @@ pub mod Cases
 pub mod Lent
 pub mod Fronts
 pub mod Calls
+pub mod Lists
 pub mod McCluskey
+pub mod Covers
+pub mod Minimum

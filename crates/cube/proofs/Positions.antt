@@ -45,7 +45,7 @@ count-shift : (n : ℕ) (f : ℕ → Bool) → length (those (suc n) f) ≡ flag
 count-shift zero f = omega (arith, count-suc f 0, count-none f, count-none (λ i. f (suc i)))
 count-shift (suc n) f = omega (arith, count-suc f (suc n), count-shift n f, count-suc (λ i. f (suc i)) n)
 
-literals-count : (n q : ℕ) → cubeLiterals n q ≡ length (those n (λ i. tested (digit i q)))
+pub literals-count : (n q : ℕ) → cubeLiterals n q ≡ length (those n (λ i. tested (digit i q)))
 unfolding cubeLiterals digit
 literals-count zero q = sym (count-none (λ i. tested (digit i q)))
 literals-count (suc n) q = omega (arith, literals-count n (q / 3), count-shift n (λ i. tested (digit i q)))

@@ -7,7 +7,7 @@ use mathlib.Core.List.{List, [], _∷_, _++_}
 use lib.Dec.{eqb, ltb, leb}
 use lib.ListN.{length, drop}
 use Rattle.cube.specs.Below.{some}
-use Rattle.cube.specs.Words.{cell}
+use Rattle.cube.specs.Words.{cell, Cover, allFormed, rowsOf}
 use Rattle.cube.specs.declared.Counted.{Counted}
 use Rattle.cube.specs.declared.Counted.the-variants.{Count, Refused}
 
@@ -31,6 +31,22 @@ badCell t = some (length t) (λ c. ltb 2 (cell t c))
 abbrev pub short : ℕ → ℕ → Bool
 short places needed = ltb places needed
 
+-- "5 arrays of unequal length."
+abbrev pub unequalLengths : List ℕ → List ℕ → Bool
+unequalLengths vs ws = not (eqb (length vs) (length ws))
+
+-- "255 rows pass Check, 256 refuse.": the most rows of a list
+abbrev pub mostRows : ℕ
+mostRows = 255
+
+-- "6 more than 255 rows."
+abbrev pub tooManyRows : ℕ → Bool
+tooManyRows rows = ltb mostRows rows
+
+-- "7 a row not formed."
+abbrev pub badRow : ℕ → Cover → Bool
+badRow n rs = not (allFormed n rs)
+
 -- "8 cube number 3^n or more."
 abbrev pub badCube : ℕ → ℕ → Bool
 badCube n q = leb (3 ^ n) q
@@ -51,6 +67,11 @@ firstOf (x ∷ xs) = cond (x .holds) (x .number) (firstOf xs)
 -- what every call on a table refuses first: "1, 2, 3"
 abbrev pub tableConditions : ℕ → List ℕ → List Condition
 tableConditions n t = when (badWidth n) 1 ∷ when (badLength n t) 2 ∷ when (badCell t) 3 ∷ []
+
+-- what a call on a list in two arrays refuses: "5, 6, 7"
+abbrev pub listConditions : ℕ → List ℕ → List ℕ → List Condition
+listConditions n vs ws =
+    when (unequalLengths vs ws) 5 ∷ when (tooManyRows (length (rowsOf vs ws))) 6 ∷ when (badRow n (rowsOf vs ws)) 7 ∷ []
 
 -- what a call answers: a refusal's number alone, or its values
 pub data Answer (A : Type 0) : Type 0 where

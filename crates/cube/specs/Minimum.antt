@@ -1,11 +1,11 @@
--- Demand 3: which lists are shortest. Assumes nothing.
+-- Demand 3: which lists are shortest; and the minimum sums of document 000, which they are. Assumes nothing.
 use mathlib.Core.Path.{_≡_}
-use mathlib.Core.Logic.{_⊎_}
+use mathlib.Core.Logic.{_⊎_, _↔_}
 use mathlib.Core.List.{List}
-use Prim.Native.Nat.{ℕ, _<_, _≤_}
+use Prim.Native.Nat.{ℕ, _^_, _<_, _≤_}
 use lib.Dec.{T}
 use lib.ListN.{length}
-use Rattle.cube.specs.Words.{Cover, allFormed, implements, coverLiterals}
+use Rattle.cube.specs.Words.{Cover, eachRow, allFormed, implements, coverLiterals, numberOf, prime}
 
 -- "has at least as many rows. Where it has equally many, it has at least as many tested bits.": no rival with these counts is better
 abbrev pub NoBetter : ℕ → ℕ → ℕ → ℕ → Type 0
@@ -20,3 +20,32 @@ pub record Minimum (n : ℕ) (t : List ℕ) (list : Cover) : Type 0 where
   -- "Every other list of rows of that width that does so, whether its rows are prime or not and in whatever order"
   pub least : (rival : Cover) → T (allFormed n rival) → T (implements n t rival)
       → NoBetter (length rival) (coverLiterals n rival) (length list) (coverLiterals n list)
+
+-- ---- document 000, section 2
+
+-- "other equivalent sum functions: that is, other sum functions which correspond to the same table of combinations"
+pub record EquivalentSum (n : ℕ) (t : List ℕ) (terms : Cover) : Type 0 where
+  pub products : T (allFormed n terms)
+  pub same-table : T (implements n t terms)
+
+-- "The sum functions which have the fewest terms of all equivalent sum functions"
+pub record FewestTerms (n : ℕ) (t : List ℕ) (terms : Cover) : Type 0 where
+  pub equivalent : EquivalentSum n t terms
+  pub fewest : (other : Cover) → EquivalentSum n t other → length terms ≤ length other
+
+-- "only those functions which involve the fewest literals will be called minimum sums"
+pub record MinimumSum (n : ℕ) (t : List ℕ) (terms : Cover) : Type 0 where
+  pub fewest-terms : FewestTerms n t terms
+  pub fewest-literals : (other : Cover) → FewestTerms n t other → coverLiterals n terms ≤ coverLiterals n other
+
+-- ---- what follows for every shortest list, whatever the width and the table
+
+pub record Shortest (n : ℕ) (t : List ℕ) : Type 0 where
+  -- any two have the same counts
+  pub counts : (a b : Cover) → Minimum n t a → Minimum n t b → (length a ≡ length b) × (coverLiterals n a ≡ coverLiterals n b)
+  -- every row is prime
+  pub primes : (a : Cover) → Minimum n t a → T (eachRow (λ r. prime n t (numberOf n r)) a)
+  -- there are no more rows than codes
+  pub rows : (a : Cover) → Minimum n t a → length a ≤ 2 ^ n
+  -- the shortest lists are the minimum sums of document 000
+  pub sums : (a : Cover) → Minimum n t a ↔ MinimumSum n t a

@@ -1,9 +1,13 @@
 // Runs the calls of document 01 on its edges and on worked examples, and prints what they answer and leave.
+mod covers;
 mod cubes;
 mod print;
+mod terms;
 mod texts;
 
 fn main() {
     cubes::run();
+    terms::run();
+    covers::run();
     texts::run();
 }

@@ -31,8 +31,12 @@ pub fn line_end() {
     text(b"\n");
 }
 
-fn item(x: u8) {
+pub fn space() {
     text(b" ");
+}
+
+fn item(x: u8) {
+    space();
     number(x as usize);
 }
 

@@ -7,6 +7,7 @@ use native.Mathlib.Nat.{add-mul, sub-add-cancel, le-of-suc-le-suc}
 use native.Mathlib.Omega.{arith}
 use lib.Dec.{eqb, lit<}
 use lib.ListN.{getD}
+use mir.Val.{boolByte}
 use Rattle.cube.specs.Below.{flag, some}
 use Rattle.cube.specs.Words.{tested, digit, implicant, prime}
 use Rattle.cube.proofs.Below.{some-same}
@@ -22,6 +23,14 @@ freed-is k q =
 
 pub freed-lt : (n k q : ℕ) → k < n → q < 3 ^ n → freed k q < 3 ^ n
 freed-lt n k q l h = subst⁻¹ (λ (i : ℕ). i < 3 ^ n) (freed-is k q) (put-lt n k 2 q l (lit< tt) h)
+
+-- a test stored as a byte is its flag
+pub byte-is : (a b : Bool) → a ≡ b → boolByte a ≡ flag b
+byte-is a b e = go a ∙ ap flag e
+  where
+    go : (x : Bool) → boolByte x ≡ flag x
+    go true = refl
+    go false = refl
 
 -- a mark of a test tells the test
 pub marked-is : (f : ℕ → Bool) (marks : List ℕ) (m q : ℕ) → Marks f marks m → q < m → isMarked marks q ≡ f q

@@ -3,16 +3,17 @@
 use mathlib.Core.Path.{_≡_}
 use Prim.Native.Nat.{ℕ, _+_, _*_, _-_, _^_, _<_, _≤_}
 use mathlib.Core.Bool.{Bool, not, _&&_}
-use mathlib.Core.List.{List, [], _∷_, _++_}
+use mathlib.Core.List.{List, [], _∷_}
 use lib.Dec.{eqb}
 use lib.ListN.{length, getD}
 use Rattle.cube.specs.Below.{flag, some}
 use Rattle.cube.specs.Words.{tested, digit}
-use Rattle.cube.specs.Calls.{widest, short, when, firstOf, tableConditions}
+use Rattle.cube.specs.Calls.{widest, badWidth, badLength, badCell, short, when, firstOf}
 
 -- the number that Primes refuses with, or 0
 abbrev pub primesRefuses : ℕ → List ℕ → ℕ → ℕ
-primesRefuses n t places = firstOf (tableConditions n t ++ (when (short places (3 ^ n)) 4 ∷ []))
+primesRefuses n t places =
+    firstOf (when (badWidth n) 1 ∷ when (badLength n t) 2 ∷ when (badCell t) 3 ∷ when (short places (3 ^ n)) 4 ∷ [])
 
 -- a table of n variables, with a mark for each cube
 pub record Flagged (n : ℕ) (t flags : List ℕ) : Type 0 where

@@ -6,7 +6,8 @@
 use cells::Split;
 use cube::Counted;
 ghost use mathlib.Core.Path.{_≡_};
-ghost use Prim.Native.Nat.{_<_, _≤_, _^_};
+ghost use mathlib.Core.Bool.{Bool};
+ghost use Prim.Native.Nat.{ℕ, _<_, _≤_, _^_};
 ghost use lib.ListN.{length};
 ghost use lib.Seq.{sets};
 ghost use Rattle.cube.specs.Below.{flag, those};
@@ -123,7 +124,7 @@ pub fn mark_primes(n: usize, table: &[u8], marks: &mut [u8])
 }
 
 // Lists the numbers below m that are marked, ascending, and returns how many there are.
-pub fn list_marked(m: usize, marks: &[u8], out: &mut [u16]) -> usize
+fn list_below(m: usize, marks: &[u8], out: &mut [u16]) -> usize
     requires { ⌜ (m ≤ 3 ^ widest) × (m ≤ length (now marks)) × (m ≤ length (now out)) ⌝ }
     ensures { λ r. ⌜ (r ≡ length (those m (isMarked (now (marks .entry)))))
         × (now (out .exit) ≡ sets (now (out .entry)) 0 (those m (isMarked (now (marks .entry))))) ⌝ }
@@ -140,19 +141,46 @@ pub fn list_marked(m: usize, marks: &[u8], out: &mut [u16]) -> usize
     count
 }
 
+// Lists the marked cubes of n digits, ascending, and returns how many there are. Where the marks are those of a test, these are the cubes that pass.
+pub fn list_marked(n: usize, marks: &[u8], out: &mut [u16]) -> usize
+    requires { ⌜ (n ≤ widest) × (3 ^ n ≤ length (now marks)) × (3 ^ n ≤ length (now out)) ⌝ }
+    ensures { λ r. ⌜ ((f : ℕ → Bool) → Marks f (now (marks .entry)) (3 ^ n) → (r ≡ length (those (3 ^ n) f)) × (now (out .exit) ≡ sets (now (out .entry)) 0 (those (3 ^ n) f))) ⌝ }
+{
+    list_below(spelling::cubes(n), marks, out)
+}
+
+// Lists the primes of a table of n variables, ascending, and returns their number.
+pub fn list_primes(n: usize, table: &[u8], out: &mut [u16]) -> usize
+    requires { ⌜ (n ≤ widest) × (length (now table) ≡ 2 ^ n) × (3 ^ n ≤ length (now out)) ⌝ }
+    ensures { λ r. ⌜ (r ≡ length (primesOf n (now (table .entry))))
+        × (now (out .exit) ≡ sets (now (out .entry)) 0 (primesOf n (now (table .entry)))) ⌝ }
+{
+    let mut marks = [0u8; 729];
+    mark_primes(n, table, &mut marks);
+    list_marked(n, &marks, out)
+}
+
+// What a call refuses that lists cubes into places, 3^n of them at least: 1, 2, 3, 4, or 0 where none of these holds.
+pub fn listing_refusal(n: usize, table: &[u8], places: usize) -> u8
+    ensures { λ r. ⌜ r ≡ primesRefuses n (now (table .entry)) places ⌝ }
+{
+    let k = table_refusal(n, table);
+    if k != 0 {
+        return k;
+    }
+    if places < spelling::cubes(n) {
+        return 4;
+    }
+    0
+}
+
 pub fn primes(n: usize, table: &[u8], out: &mut [u16]) -> Counted
     ensures { λ r. ⌜ Listed (primesRefuses n (now (table .entry)) (length (now (out .entry)))) (primesOf n (now (table .entry)))
         (now (out .entry)) (now (out .exit)) r ⌝ }
 {
-    let k = table_refusal(n, table);
+    let k = listing_refusal(n, table, out.len());
     if k != 0 {
         return Counted::Refused(k);
     }
-    let cubes = spelling::cubes(n);
-    if out.len() < cubes {
-        return Counted::Refused(4);
-    }
-    let mut marks = [0u8; 729];
-    mark_primes(n, table, &mut marks);
-    Counted::Count(list_marked(cubes, &marks, out))
+    Counted::Count(list_primes(n, table, out))
 }

@@ -1,24 +1,16 @@
 -- `primes::mark_maximal` meets its contract: the marks before q are right. Assumes nothing.
-use mathlib.Core.Path.{_≡_, refl, ap, _∙_}
-use mathlib.Core.Bool.{Bool, true, false}
+use mathlib.Core.Path.{_≡_, refl}
 use Prim.Native.Nat.{ℕ, _-_, _^_, _<_, _≤_}
 use native.Mathlib.Omega.{arith}
 use lib.ListN.{length, length-set}
-use mir.Val.{boolByte}
 use borrow.Author.Needs.{needs}
 use Rattle.cube.specs.Below.{flag}
 use Rattle.cube.specs.Calls.{widest}
 use Rattle.cube.proofs.Lent.{fill-more}
 use Rattle.primes.specs.Primes.{Marks, primeBy}
+use Rattle.primes.proofs.Flags.{byte-is}
 use Rattle.primes.proofs.mark_maximal.Statement.{statement}
 use Rattle.primes.proofs.mark_maximal.Tie as tie
-
-byte-is : (a b : Bool) → a ≡ b → boolByte a ≡ flag b
-byte-is a b e = go a ∙ ap flag e
-  where
-    go : (x : Bool) → boolByte x ≡ flag x
-    go true = refl
-    go false = refl
 
 abbrev Inv-loop : tie.InvT-loop
 Inv-loop n flags marks₀ cubes q₀ marks q =

@@ -1,0 +1,24 @@
+-- The columns of a chart row: "a 64-bit word whose bit c tells that wanted code c is matched. Free and barred codes are never columns."
+-- Assumes nothing.
+use Prim.Native.Nat.{ℕ, zero, suc, _+_, _*_, _^_}
+use mathlib.Core.Bool.{Bool, _&&_}
+use mathlib.Core.List.{List}
+use Rattle.cube.specs.Below.{flag}
+use Rattle.cube.specs.Words.{onSet, rowMatches, cubeMatches}
+
+-- the word whose bit c is set for each c below m that passes
+unfoldable pub wordOf : ℕ → (ℕ → Bool) → ℕ
+wordOf zero f = 0
+wordOf (suc m) f = wordOf m f + flag (f m) * 2 ^ m
+
+-- code c is wanted, and cube q matches it
+abbrev pub column : ℕ → List ℕ → ℕ → ℕ → Bool
+column n t q c = onSet t c && cubeMatches n q c
+
+-- the word of cube q
+abbrev pub columnsOf : ℕ → List ℕ → ℕ → ℕ
+columnsOf n t q = wordOf (2 ^ n) (column n t q)
+
+-- code c is wanted, and the row of value v and care w matches it
+abbrev pub rowColumn : List ℕ → ℕ → ℕ → ℕ → Bool
+rowColumn t v w c = onSet t c && rowMatches (record { value = v; care = w }) c

@@ -1,0 +1,150 @@
+-- Counting the entries of a column by two words: which columns were met once, which twice. A prime that holds the sole entry of a column is a
+-- single asterisk row of McCluskey's table, so it is essential. Assumes nothing.
+use mathlib.Core.Path.{_≡_, refl, sym, ap, ap₂, _∙_, subst}
+use mathlib.Core.Bool.{Bool, true, false, cond, not, _&&_, _||_, false≢true}
+use mathlib.Core.List.{List}
+use Prim.Native.Nat.{ℕ, zero, suc, _+_, _^_, _<_, _≤_}
+use native.Mathlib.Nat.{lt-of-le-of-lt, pos-of-ne-zero}
+use native.Mathlib.Numerals.{add-one}
+use native.Mathlib.Omega.{arith}
+use lib.Bits.{bitAnd, and-le-l}
+use lib.Count.{trailingZeros}
+use lib.Pow.{pow-pos}
+use lib.Dec.{T, eqb, leb, ltb, eqb→eq, ltb→lt, lt→ltb}
+use lib.ListN.{length, getD}
+use borrow.Author.Tests.{le-leb, eq-eqb, ne-eqb}
+use Rattle.cube.specs.Below.{flag, those}
+use Rattle.cube.specs.Words.{onSet, cubeMatches, prime, essential, primesOf}
+use Rattle.cube.specs.McCluskey as mccluskey
+use Rattle.cube.proofs.Bools.{and-l, and-r, and-i, not-e, not-i, same, is-true, holds, eqb-of}
+use Rattle.cube.proofs.Below.{count-none, count-suc, count-those, those-same}
+use Rattle.cube.proofs.McCluskey.{agreement}
+use Rattle.matrix.specs.Sets.{has, In}
+use Rattle.matrix.proofs.Bits.{has-and, has-zero, lowest-in}
+use Rattle.chart.specs.Columns.{column, columnsOf}
+use Rattle.chart.proofs.Words.{word-lt, has-word}
+use Rattle.essentials.specs.Essentials.{PrimeWords, crosses, Seen, SoleColumns}
+
+-- ---- once and twice
+
+one-more : (k : ℕ) (b : Bool) → (leb 1 k || b) ≡ leb 1 (k + flag b)
+one-more zero true = refl
+one-more zero false = refl
+one-more (suc k) b = ap (λ (x : Bool). x || b) (le-leb 1 (suc k) (omega arith)) ∙ sym (le-leb 1 (suc k + flag b) (omega arith))
+
+two-more : (k : ℕ) (b : Bool) → (leb 2 k || (leb 1 k && b)) ≡ leb 2 (k + flag b)
+two-more zero true = refl
+two-more zero false = refl
+two-more (suc zero) true = refl
+two-more (suc zero) false = refl
+two-more (suc (suc k)) b =
+    ap (λ (x : Bool). x || (leb 1 (suc (suc k)) && b)) (le-leb 2 (suc (suc k)) (omega arith)) ∙ sym (le-leb 2 (suc (suc k) + flag b) (omega arith))
+
+just-one : (k : ℕ) → (leb 1 k && not (leb 2 k)) ≡ eqb k 1
+just-one zero = refl
+just-one (suc zero) = refl
+just-one (suc (suc k)) =
+    ap₂ (λ (x y : Bool). x && not y) (le-leb 1 (suc (suc k)) (omega arith)) (le-leb 2 (suc (suc k)) (omega arith))
+    ∙ sym (ne-eqb (suc (suc k)) 1 (λ e. omega arith))
+
+pub seen-none : (words : List ℕ) → Seen words 0 0 0
+seen-none words = record {
+  one = λ c. has-zero c ∙ sym (ap (leb 1) (count-none (λ q. has (getD words q 0) c)));
+  two = λ c. has-zero c ∙ sym (ap (leb 2) (count-none (λ q. has (getD words q 0) c)));
+}
+
+module _ (words : List ℕ) (m word once twice once′ twice′ : ℕ) (is : getD words m 0 ≡ word) (s : Seen words m once twice) where
+  crosses-more : (c : ℕ) → crosses words (m + 1) c ≡ crosses words m c + flag (has word c)
+  crosses-more c =
+      ap (λ (i : ℕ). crosses words i c) (add-one m) ∙ count-suc (λ q. has (getD words q 0) c) m
+      ∙ ap (λ (x : ℕ). crosses words m c + flag (has x c)) is
+
+  pub seen-more : ((c : ℕ) → has once′ c ≡ (has once c || has word c)) → ((c : ℕ) → has twice′ c ≡ (has twice c || (has once c && has word c)))
+      → Seen words (m + 1) once′ twice′
+  seen-more f g = record {
+    one = λ c. f c ∙ ap (λ (x : Bool). x || has word c) (s .one c) ∙ one-more (crosses words m c) (has word c) ∙ sym (ap (leb 1) (crosses-more c));
+    two = λ c.
+        g c ∙ ap₂ (λ (x y : Bool). x || (y && has word c)) (s .two c) (s .one c) ∙ two-more (crosses words m c) (has word c)
+        ∙ sym (ap (leb 2) (crosses-more c));
+  }
+
+pub sole-of : (words : List ℕ) (m once twice sole : ℕ) → Seen words m once twice → ((c : ℕ) → has sole c ≡ (has once c && not (has twice c)))
+    → SoleColumns words m sole
+sole-of words m once twice sole s f c = f c ∙ ap₂ (λ (x y : Bool). x && not y) (s .one c) (s .two c) ∙ just-one (crosses words m c)
+
+-- ---- a prime with a sole entry is essential
+
+-- a word is no empty set exactly where it has a column
+some-column : (d x : ℕ) → x < 2 ^ d → (x ≡ 0 → ⊥) → (c : ℕ) × In x c
+some-column d x l h = (trailingZeros d x, lowest-in d x (pos-of-ne-zero h) l)
+
+no-column : (x c : ℕ) → In x c → x ≡ 0 → ⊥
+no-column x c h e = false≢true (sym (has-zero c) ∙ sym (ap (λ (i : ℕ). has i c) e) ∙ h)
+
+module _ (n : ℕ) (t words : List ℕ) (sole : ℕ) (p : PrimeWords n t words (3 ^ n)) (s : SoleColumns words (3 ^ n) sole) where
+  -- the entries of the words are the crosses of the table, in a wanted code
+  has-prime : (q c : ℕ) → q < 3 ^ n → has (getD words q 0) c ≡ (prime n t q && (ltb c (2 ^ n) && column n t q c))
+  has-prime q c l = ap (λ (x : ℕ). has x c) (p q l) ∙ go (prime n t q)
+    where
+      go : (b : Bool) → has (cond b (columnsOf n t q) 0) c ≡ (b && (ltb c (2 ^ n) && column n t q c))
+      go true = has-word (2 ^ n) (column n t q) c
+      go false = has-zero c
+
+  at-column : (c q : ℕ) → c < 2 ^ n → T (onSet t c) → q < 3 ^ n → has (getD words q 0) c ≡ (prime n t q && cubeMatches n q c)
+  at-column c q l w k =
+      has-prime q c k
+      ∙ ap₂ (λ (x y : Bool). prime n t q && (x && (y && cubeMatches n q c))) (is-true (ltb c (2 ^ n)) (lt→ltb c (2 ^ n) l)) (is-true (onSet t c) w)
+
+  crosses-are : (c : ℕ) → c < 2 ^ n → T (onSet t c) → crosses words (3 ^ n) c ≡ mccluskey.crosses n t c
+  unfolding primesOf
+  crosses-are c l w =
+      ap length (those-same (3 ^ n) (λ q. has (getD words q 0) c) (λ q. prime n t q && cubeMatches n q c) (λ q k. at-column c q l w k))
+      ∙ sym (count-those (prime n t) (λ q. cubeMatches n q c) (3 ^ n))
+
+  module _ (q : ℕ) (l : q < 3 ^ n) where
+    held : ℕ
+    held = bitAnd (getD words q 0) sole
+
+    held-lt : held < 2 ^ (2 ^ n)
+    unfolding held
+    held-lt = lt-of-le-of-lt (and-le-l (getD words q 0) sole) (subst (λ (x : ℕ). x < 2 ^ (2 ^ n)) (sym (p q l)) (go (prime n t q)))
+      where
+        go : (b : Bool) → cond b (columnsOf n t q) 0 < 2 ^ (2 ^ n)
+        go true = word-lt (2 ^ n) (column n t q)
+        go false = pow-pos (2 ^ n)
+
+    to : T (not (eqb held 0)) → T (essential n t q)
+    unfolding held
+    to h = single (some-column (2 ^ n) held held-lt (λ e. not-e (eqb held 0) h (eqb-of held 0 e)))
+      where
+        single : (c : ℕ) × In held c → T (essential n t q)
+        single r =
+            let c = r .0 in
+            let both = holds (has (getD words q 0) c && has sole c) (sym (has-and (getD words q 0) sole c) ∙ r .1) in
+            let entry = holds (prime n t q && (ltb c (2 ^ n) && column n t q c)) (sym (has-prime q c l) ∙ is-true (has (getD words q 0) c) (and-l (has (getD words q 0) c) (has sole c) both)) in
+            let inside = and-r (prime n t q) (ltb c (2 ^ n) && column n t q c) entry in
+            let below : c < 2 ^ n = ltb→lt c (2 ^ n) (and-l (ltb c (2 ^ n)) (column n t q c) inside) in
+            let wanted = and-l (onSet t c) (cubeMatches n q c) (and-r (ltb c (2 ^ n)) (column n t q c) inside) in
+            let matched = and-r (onSet t c) (cubeMatches n q c) (and-r (ltb c (2 ^ n)) (column n t q c) inside) in
+            let one = eqb→eq (crosses words (3 ^ n) c) 1 (holds (eqb (crosses words (3 ^ n) c) 1) (sym (s c) ∙ is-true (has sole c) (and-r (has (getD words q 0) c) (has sole c) both))) in
+            agreement n t .essentials q l .1 (record {
+              row = agreement n t .primes q l .0 (and-l (prime n t q) (ltb c (2 ^ n) && column n t q c) entry);
+              column = c;
+              is-column = record { row = below; one = wanted };
+              entry = matched;
+              sole = sym (crosses-are c below wanted) ∙ one;
+            })
+
+    from : T (essential n t q) → T (not (eqb held 0))
+    unfolding held
+    from h =
+        let a = agreement n t .essentials q l .0 h in
+        let c = a .column in
+        let is-prime = agreement n t .primes q l .1 (a .row) in
+        let entry : In (getD words q 0) c = at-column c q (a .is-column .row) (a .is-column .one) l ∙ is-true (prime n t q && cubeMatches n q c) (and-i (prime n t q) (cubeMatches n q c) is-prime (a .entry)) in
+        let alone : In sole c = s c ∙ eq-eqb (crosses words (3 ^ n) c) 1 (crosses-are c (a .is-column .row) (a .is-column .one) ∙ a .sole) in
+        not-i (eqb held 0) (λ e. no-column held c (has-and (getD words q 0) sole c ∙ ap₂ _&&_ entry alone) (eqb→eq held 0 e))
+
+    pub holder-is-essential : not (eqb (bitAnd (getD words q 0) sole) 0) ≡ essential n t q
+    unfolding held
+    holder-is-essential = same (not (eqb held 0)) (essential n t q) to from

@@ -1,0 +1,122 @@
+// Essentials: one pass over the words of the chart finds the columns with a single entry; the primes that hold one of
+// these entries are listed.
+//
+//     let mut places = [0u16; 9];
+//     essentials::essentials(2, &[1, 0, 0, 2], &mut places)   // count 1: cube 0 (00); 11 matches no wanted code
+use cube::Counted;
+use matrix::columns;
+ghost use mathlib.Core.Path.{_≡_};
+ghost use mathlib.Core.Bool.{cond, not};
+ghost use mathlib.Core.List.{List};
+ghost use Prim.Native.Nat.{ℕ, _+_, _<_, _≤_, _^_};
+ghost use lib.Bits.{bitAnd};
+ghost use lib.Dec.{eqb};
+ghost use lib.ListN.{length, getD};
+ghost use lib.Seq.{sets};
+ghost use Rattle.cube.specs.Words.{prime, essential, essentialsOf};
+ghost use Rattle.cube.specs.Calls.{widest, Listed};
+ghost use Rattle.primes.specs.Primes.{primesRefuses, Flagged, Marks, isMarked};
+ghost use Rattle.chart.specs.Columns.{columnsOf};
+ghost use Rattle.essentials.specs.Essentials.{PrimeWords, Seen, SoleColumns};
+
+// The word of cube q: its columns if it is marked as a prime, else none.
+fn prime_word(n: usize, table: &[u8], marks: &[u8], q: usize) -> u64
+    requires { ⌜ Flagged n (now table) (now marks) × (q < 3 ^ n) ⌝ }
+    ensures { λ r. ⌜ r ≡ cond (isMarked (now (marks .entry)) q) (columnsOf n (now (table .entry)) q) 0 ⌝ }
+{
+    if marks[q] == 0 {
+        return 0;
+    }
+    chart::columns(n, table, q)
+}
+
+// The words of all cubes.
+fn prime_words(n: usize, table: &[u8], marks: &[u8], words: &mut [u64])
+    requires { ⌜ Flagged n (now table) (now marks) × Marks (prime n (now table)) (now marks) (3 ^ n) × (3 ^ n ≤ length (now words)) ⌝ }
+    ensures { λ _. ⌜ PrimeWords n (now (table .entry)) (now (words .exit)) (3 ^ n) ⌝ }
+{
+    let cubes = spelling::cubes(n);
+    let mut q = 0;
+    while q < cubes {
+        words[q] = prime_word(n, table, marks, q);
+        q += 1;
+    }
+}
+
+// The columns that at least one word has, and those that at least two have.
+pub struct Entries {
+    pub once: u64,
+    pub twice: u64,
+}
+
+// One word more.
+fn with_word(seen: Entries, word: u64) -> Entries
+    ensures { λ r. ⌜ ((words : List ℕ) (m : ℕ) → getD words m 0 ≡ word → Seen words m (seen .once) (seen .twice) → Seen words (m + 1) (r .once) (r .twice)) ⌝ }
+{
+    let again = columns::both(seen.once, word);
+    Entries {
+        once: columns::either(seen.once, word),
+        twice: columns::either(seen.twice, again),
+    }
+}
+
+// The columns that one of the first m words alone has.
+fn sole_columns(words: &[u64], m: usize) -> u64
+    requires { ⌜ m ≤ length (now words) ⌝ }
+    ensures { λ r. ⌜ SoleColumns (now (words .entry)) m r ⌝ }
+{
+    let mut seen = Entries { once: 0, twice: 0 };
+    let mut q = 0;
+    while q < m {
+        seen = with_word(seen, words[q]);
+        q += 1;
+    }
+    columns::without(seen.once, seen.twice)
+}
+
+// Marks the words that have one of the columns.
+fn mark_holders(words: &[u64], m: usize, sole: u64, marks: &mut [u8])
+    requires { ⌜ (m ≤ length (now words)) × (m ≤ length (now marks)) ⌝ }
+    ensures { λ _. ⌜ Marks (λ q. not (eqb (bitAnd (getD (now (words .entry)) q 0) sole) 0)) (now (marks .exit)) m ⌝ }
+{
+    let mut q = 0;
+    while q < m {
+        marks[q] = (words[q] & sole != 0) as u8;
+        q += 1;
+    }
+}
+
+// Marks the essential primes of a table of n variables: 1 for an essential one, 0 for another cube.
+fn mark_essentials(n: usize, table: &[u8], marks: &mut [u8])
+    requires { ⌜ Flagged n (now table) (now marks) ⌝ }
+    ensures { λ _. ⌜ Marks (essential n (now (table .entry))) (now (marks .exit)) (3 ^ n) ⌝ }
+{
+    primes::mark_primes(n, table, marks);
+    let mut words = [0u64; 729];
+    prime_words(n, table, marks, &mut words);
+    let cubes = spelling::cubes(n);
+    let sole = sole_columns(&words, cubes);
+    mark_holders(&words, cubes, sole, marks);
+}
+
+// Lists the essential primes of a table of n variables, ascending, and returns their number.
+fn list_essentials(n: usize, table: &[u8], out: &mut [u16]) -> usize
+    requires { ⌜ (n ≤ widest) × (length (now table) ≡ 2 ^ n) × (3 ^ n ≤ length (now out)) ⌝ }
+    ensures { λ r. ⌜ (r ≡ length (essentialsOf n (now (table .entry))))
+        × (now (out .exit) ≡ sets (now (out .entry)) 0 (essentialsOf n (now (table .entry)))) ⌝ }
+{
+    let mut marks = [0u8; 729];
+    mark_essentials(n, table, &mut marks);
+    primes::list_marked(n, &marks, out)
+}
+
+pub fn essentials(n: usize, table: &[u8], out: &mut [u16]) -> Counted
+    ensures { λ r. ⌜ Listed (primesRefuses n (now (table .entry)) (length (now (out .entry)))) (essentialsOf n (now (table .entry)))
+        (now (out .entry)) (now (out .exit)) r ⌝ }
+{
+    let k = primes::listing_refusal(n, table, out.len());
+    if k != 0 {
+        return Counted::Refused(k);
+    }
+    Counted::Count(list_essentials(n, table, out))
+}

@@ -1,0 +1,199 @@
+-- Words as sets of columns: what each operation on words does to a column, as an equation of flags. Each goes by the quotient by 2 ^ c, under which the
+-- operations on words stay what they are, and then by the lowest digit. Assumes nothing.
+use mathlib.Core.Path.{_≡_, refl, sym, ap, ap₂, subst, _∙_}
+use mathlib.Core.Logic.{_⊎_, inl, inr, ⊎-elim}
+use mathlib.Core.Bool.{Bool, true, false, not, _&&_, _||_}
+use Prim.Native.Nat.{ℕ, zero, suc, _+_, _-_, _*_, _/_, _%_, _^_, _≤_, _<_, min, max}
+use native.Mathlib.Nat.{zero-lt-suc, pow-suc, pow-succ', div-lt-iff-lt-mul, div-div-eq-div-mul, div-one, zero-div, lt-of-lt-of-le, lt-of-le-of-lt, div-le-self, div-eq-of-lt, div-self, mul-mod-left, one-mul, mod-eq-of-lt}
+use native.Mathlib.Omega.{arith}
+use native.Mathlib.Decide.{decLt}
+use lib.Dec.{eqb}
+use lib.Pow.{pow-mono, pow-lt, pow-pos, pow-add, shl-shr}
+use lib.Bits.{bitAnd, bitOr, bitXor, differ, and-step, or-step, xor-step, and-shr, or-shr, xor-shr, and-mask}
+use lib.Count.{trailingZeros, under}
+use borrow.Author.Tests.{eq-eqb, ne-eqb}
+use Rattle.matrix.specs.Sets.{has, In, Next}
+
+digit : ℕ → ℕ → ℕ
+digit x c = x / 2 ^ c % 2
+
+digit-lt : (x c : ℕ) → digit x c < 2
+unfolding digit
+digit-lt x c = omega arith
+
+-- ---- the operations, at the lowest digits x and y of two words
+
+-- what holds of both digits, and of the four pairs of them
+each : (P : ℕ → Type 0) → P 0 → P 1 → (x : ℕ) → x < 2 → P x
+each P a b zero h = a
+each P a b (suc zero) h = b
+each P a b (suc (suc x)) h = absurd (omega arith)
+
+pairs : (P : ℕ → ℕ → Type 0) → P 0 0 → P 0 1 → P 1 0 → P 1 1 → (x y : ℕ) → x < 2 → y < 2 → P x y
+pairs P a b c d x y h k = each (λ x. P x y) (each (P 0) a b y k) (each (P 1) c d y k) x h
+
+and-flag : (x y : ℕ) → x < 2 → y < 2 → eqb (min x y) 1 ≡ (eqb x 1 && eqb y 1)
+and-flag = pairs (λ x y. eqb (min x y) 1 ≡ (eqb x 1 && eqb y 1)) refl refl refl refl
+
+or-flag : (x y : ℕ) → x < 2 → y < 2 → eqb (max x y) 1 ≡ (eqb x 1 || eqb y 1)
+or-flag = pairs (λ x y. eqb (max x y) 1 ≡ (eqb x 1 || eqb y 1)) refl refl refl refl
+
+without-flag : (x y : ℕ) → x < 2 → y < 2 → eqb (differ x (min x y)) 1 ≡ (eqb x 1 && not (eqb y 1))
+without-flag = pairs (λ x y. eqb (differ x (min x y)) 1 ≡ (eqb x 1 && not (eqb y 1))) refl refl refl refl
+
+differ-lt : (x y : ℕ) → x < 2 → y < 2 → differ x y < 2
+differ-lt = pairs (λ x y. differ x y < 2) (omega arith) (omega arith) (omega arith) (omega arith)
+
+and-odd : (a b : ℕ) → bitAnd a b % 2 ≡ min (a % 2) (b % 2)
+and-odd a b = omega (arith, and-step a b)
+
+or-odd : (a b : ℕ) → bitOr a b % 2 ≡ max (a % 2) (b % 2)
+or-odd a b = omega (arith, or-step a b)
+
+xor-odd : (a b : ℕ) → bitXor a b % 2 ≡ differ (a % 2) (b % 2)
+xor-odd a b = omega (arith, xor-step a b, differ-lt (a % 2) (b % 2) (omega arith) (omega arith))
+
+digit-and : (a b c : ℕ) → digit (bitAnd a b) c ≡ min (digit a c) (digit b c)
+unfolding digit
+digit-and a b c = ap (λ (x : ℕ). x % 2) (and-shr a b c) ∙ and-odd (a / 2 ^ c) (b / 2 ^ c)
+
+-- ---- a & b, a | b, a ^ (a & b)
+
+pub has-and : (a b c : ℕ) → has (bitAnd a b) c ≡ (has a c && has b c)
+unfolding has digit
+has-and a b c = ap (λ (x : ℕ). eqb x 1) (digit-and a b c) ∙ and-flag (digit a c) (digit b c) (digit-lt a c) (digit-lt b c)
+
+pub has-or : (a b c : ℕ) → has (bitOr a b) c ≡ (has a c || has b c)
+unfolding has digit
+has-or a b c = ap (λ (x : ℕ). eqb x 1) (ap (λ (x : ℕ). x % 2) (or-shr a b c) ∙ or-odd (a / 2 ^ c) (b / 2 ^ c)) ∙ or-flag (digit a c) (digit b c) (digit-lt a c) (digit-lt b c)
+
+pub has-without : (a b c : ℕ) → has (bitXor a (bitAnd a b)) c ≡ (has a c && not (has b c))
+unfolding has digit
+has-without a b c =
+    ap (λ (x : ℕ). eqb x 1)
+    (ap (λ (x : ℕ). x % 2) (xor-shr a (bitAnd a b) c) ∙ xor-odd (a / 2 ^ c) (bitAnd a b / 2 ^ c) ∙ ap (differ (digit a c)) (digit-and a b c))
+    ∙ without-flag (digit a c) (digit b c) (digit-lt a c) (digit-lt b c)
+
+-- x >> c & 1
+pub has-shifted : (x c : ℕ) → eqb (bitAnd (x / 2 ^ c) 1) 1 ≡ has x c
+unfolding has
+has-shifted x c = ap (λ (y : ℕ). eqb y 1) (and-mask (x / 2 ^ c) 1)
+
+-- ---- 0
+
+pub has-zero : (c : ℕ) → has 0 c ≡ false
+unfolding has
+has-zero c = ap (λ (x : ℕ). eqb (x % 2) 1) (zero-div (2 ^ c))
+
+-- ---- 1 << d
+
+even-below : (e c : ℕ) → 2 ^ (suc e + c) / 2 ^ c % 2 ≡ 0
+even-below e c =
+    ap (λ (y : ℕ). y / 2 ^ c % 2) (pow-add 2 (suc e) c) ∙ ap (λ (y : ℕ). y % 2) (shl-shr (2 ^ suc e) c)
+    ∙ ap (λ (y : ℕ). y % 2) (pow-suc 2 e) ∙ mul-mod-left (2 ^ e) 2
+
+below-even : (d c : ℕ) → c < d → 2 ^ d / 2 ^ c % 2 ≡ 0
+below-even d c l = let e : d ≡ suc (d - c - 1) + c = omega arith in ap (λ (y : ℕ). 2 ^ y / 2 ^ c % 2) e ∙ even-below (d - c - 1) c
+
+pub has-one : (d c : ℕ) → has (2 ^ d) c ≡ eqb c d
+unfolding has
+has-one d c = go (decLt c d) (decLt d c)
+  where
+    go : Dec (c < d) → Dec (d < c) → eqb (2 ^ d / 2 ^ c % 2) 1 ≡ eqb c d
+    go (yes l) e = ap (λ (x : ℕ). eqb x 1) (below-even d c l) ∙ sym (ne-eqb c d (λ z. omega arith))
+    go (no n) (yes l) = ap (λ (x : ℕ). eqb (x % 2) 1) (div-eq-of-lt (pow-lt l)) ∙ sym (ne-eqb c d (λ z. omega arith))
+    go (no n) (no m) = let e : c ≡ d = omega arith in
+        ap (λ (x : ℕ). eqb (2 ^ d / 2 ^ x % 2) 1) e ∙ ap (λ (x : ℕ). eqb (x % 2) 1) (div-self (pow-pos d)) ∙ sym (eq-eqb c d e)
+
+pub shifted-one : (d : ℕ) → d < 64 → 1 * 2 ^ d % 2 ^ 64 ≡ 2 ^ d
+shifted-one d h = ap (λ (y : ℕ). y % 2 ^ 64) (one-mul (2 ^ d)) ∙ mod-eq-of-lt (pow-lt h)
+
+-- ---- a word's columns end at its width
+
+pub in-below : (x c d : ℕ) → x < 2 ^ d → In x c → c < d
+unfolding has
+in-below x c d h i = go (decLt c d)
+  where
+    high : d ≤ c → eqb (x / 2 ^ c % 2) 1 ≡ false
+    high l = ap (λ (y : ℕ). eqb (y % 2) 1) (div-eq-of-lt (lt-of-lt-of-le h (pow-mono l)))
+
+    go : Dec (c < d) → c < d
+    go (yes l) = l
+    go (no n) = absurd (let e : true ≡ false = sym i ∙ high (omega arith) in let z : _≡_ {A = ℕ} 0 1 = cc in omega arith)
+
+-- ---- the lowest column
+
+-- x >> f
+pub has-shr : (x f c : ℕ) → has (x / 2 ^ f) c ≡ has x (f + c)
+unfolding has
+has-shr x f c = ap (λ (y : ℕ). eqb (y % 2) 1) (div-div-eq-div-mul x (2 ^ f) (2 ^ c) ∙ ap (λ (y : ℕ). x / y) (sym (pow-add 2 f c)))
+
+has-half : (x c : ℕ) → has (x / 2) c ≡ has x (suc c)
+has-half x c = has-shr x 1 c ∙ ap (has x) (omega arith)
+
+has-lowest : (x : ℕ) → has x 0 ≡ eqb (x % 2) 1
+unfolding has
+has-lowest x = ap (λ (y : ℕ). eqb (y % 2) 1) (div-one x)
+
+-- from the trailing zeros of x / 2 to those of x
+lowest-step : (t x r : ℕ) → x % 2 ≡ r → (r ≡ 0 → In (x / 2) t) → In x (under r t)
+lowest-step t x zero e h = sym (has-half x t) ∙ h refl
+lowest-step t x (suc zero) e h = has-lowest x ∙ ap (λ (y : ℕ). eqb y 1) e
+lowest-step t x (suc (suc r)) e h = absurd (omega arith)
+
+half-pos : (x : ℕ) → 0 < x → x % 2 ≡ 0 → 0 < x / 2
+half-pos x h e = omega arith
+
+half-lt : (d x : ℕ) → x < 2 ^ suc d → x / 2 < 2 ^ d
+half-lt d x k = div-lt-iff-lt-mul (zero-lt-suc 1) .1 (subst (λ (y : ℕ). x < y) (pow-suc 2 d) k)
+
+pub lowest-in : (d x : ℕ) → 0 < x → x < 2 ^ d → In x (trailingZeros d x)
+unfolding trailingZeros
+lowest-in zero x h k = absurd (omega arith)
+lowest-in (suc d) x h k = lowest-step (trailingZeros d (x / 2)) x (x % 2) refl (λ e. lowest-in d (x / 2) (half-pos x h e) (half-lt d x k))
+
+-- no column stands below the lowest
+before-step : (t x r : ℕ) → x % 2 ≡ r → ((c : ℕ) → c < t → has (x / 2) c ≡ false) → (c : ℕ) → c < under r t → has x c ≡ false
+before-step t x zero e h zero l = has-lowest x ∙ ap (λ (y : ℕ). eqb y 1) e
+before-step t x zero e h (suc c) l = sym (has-half x c) ∙ h c (omega arith)
+before-step t x (suc r) e h c l = absurd (omega arith)
+
+pub before-lowest : (d x c : ℕ) → c < trailingZeros d x → has x c ≡ false
+unfolding trailingZeros
+before-lowest zero x c l = absurd (omega arith)
+before-lowest (suc d) x c l = before-step (trailingZeros d (x / 2)) x (x % 2) refl (λ c k. before-lowest d (x / 2) c k) c l
+
+-- ---- the first column from f on, of what is shifted down by f
+
+from-shifted : (x f i : ℕ) → f ≤ i → has (x / 2 ^ f) (i - f) ≡ has x i
+from-shifted x f i l = let e : f + (i - f) ≡ i = omega arith in has-shr x f (i - f) ∙ ap (has x) e
+
+pub next-none : (x f : ℕ) → f ≤ 64 → x / 2 ^ f ≡ 0 → Next (has x) f 64 64
+next-none x f l e = record {
+  above = l;
+  within = omega arith;
+  before = λ i m o. sym (from-shifted x f i m) ∙ ap (λ (y : ℕ). has y (i - f)) e ∙ has-zero (i - f);
+  here = λ h. absurd (omega arith);
+}
+
+pub next-some : (x f : ℕ) → x < 2 ^ 64 → (x / 2 ^ f ≡ 0 → ⊥) → Next (has x) f 64 (f + trailingZeros 64 (x / 2 ^ f))
+next-some x f l n = record {
+  above = omega arith;
+  within = let h = in-below x (f + t) 64 l found in omega arith;
+  before = λ i m o. sym (from-shifted x f i m) ∙ before-lowest 64 (x / 2 ^ f) (i - f) (omega arith);
+  here = λ h. found;
+}
+  where
+    t : ℕ
+    t = trailingZeros 64 (x / 2 ^ f)
+
+    found : In x (f + t)
+    found = sym (has-shr x f t) ∙ lowest-in 64 (x / 2 ^ f) (omega arith) (lt-of-le-of-lt (div-le-self x (2 ^ f)) l)
+
+-- the first column of a set that has one
+pub first-in : (x : ℕ) {r : ℕ} → x < 2 ^ 64 → (c : ℕ) × In x c → Next (has x) 0 64 r → In x r
+first-in x {r} l i n = go (decLt r 64)
+  where
+    go : Dec (r < 64) → In x r
+    go (yes h) = n .here h
+    go (no h) = absurd (let b = in-below x (i .0) 64 l (i .1) in let e : true ≡ false = sym (i .1) ∙ n .before (i .0) (omega arith) (omega (arith, n .within)) in let z : _≡_ {A = ℕ} 0 1 = cc in omega arith)

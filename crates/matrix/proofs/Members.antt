@@ -1,0 +1,121 @@
+-- Sets of rows as words: what a word put in changes, two sets joined word by word, and the first row of a set. Assumes nothing.
+use mathlib.Core.Path.{_≡_, refl, sym, ap, ap₂, _∙_}
+use mathlib.Core.List.{List}
+use mathlib.Core.Bool.{Bool, true, false, not, _&&_, _||_}
+use Prim.Native.Nat.{ℕ, _+_, _*_, _/_, _%_, _≤_, _<_}
+use native.Mathlib.Decide.{ℕ-discrete, decLt}
+use native.Mathlib.Omega.{arith}
+use lib.Dec.{eqb, ltb}
+use lib.ListN.{length, getD, set, replicate, length-set, length-replicate, getD-replicate, List·getD-eq-default}
+use lib.Seq.{getD-set-same, getD-set-other}
+use borrow.Author.Tests.{eq-eqb, ne-eqb, lt-ltb, le-ltb}
+use Rattle.matrix.specs.Sets.{has, member, Next}
+use Rattle.matrix.proofs.Bits.{has-zero}
+
+-- past a list's end there is no row
+pub member-past : (s : List ℕ) (j : ℕ) → length s ≤ j / 64 → member s j ≡ false
+unfolding member
+member-past s j l = ap (λ (x : ℕ). has x (j % 64)) (List·getD-eq-default s 0 l) ∙ has-zero (j % 64)
+
+pub member-none : (n j : ℕ) → member (replicate n 0) j ≡ false
+unfolding member
+member-none n j = go (decLt (j / 64) n)
+  where
+    go : Dec (j / 64 < n) → has (getD (replicate n 0) (j / 64) 0) (j % 64) ≡ false
+    go (yes l) = ap (λ (x : ℕ). has x (j % 64)) (getD-replicate n (j / 64) 0 0 l) ∙ has-zero (j % 64)
+    go (no k) = member-past (replicate n 0) j (omega (arith, length-replicate {A = ℕ} n 0))
+
+-- ---- a row put in or out: a word that differs in one bit
+
+pub member-put : (op : Bool → Bool → Bool) → ((b : Bool) → op false b ≡ b) → (s : List ℕ) (i w : ℕ) → i / 64 < length s
+    → ((x : ℕ) → has w x ≡ op (eqb x (i % 64)) (has (getD s (i / 64) 0) x)) → (j : ℕ) → member (set s (i / 64) w) j ≡ op (eqb j i) (member s j)
+unfolding member
+member-put op id s i w l e j = go (ℕ-discrete (j / 64) (i / 64)) (ℕ-discrete j i)
+  where
+    there : j / 64 ≡ i / 64 → has (getD (set s (i / 64) w) (j / 64) 0) (j % 64) ≡ op (eqb (j % 64) (i % 64)) (has (getD s (j / 64) 0) (j % 64))
+    there d =
+        ap (λ (x : ℕ). has (getD (set s (i / 64) w) x 0) (j % 64)) d
+        ∙ ap (λ (x : ℕ). has x (j % 64)) (getD-set-same s (i / 64) w 0 l)
+        ∙ e (j % 64)
+        ∙ ap (λ (x : ℕ). op (eqb (j % 64) (i % 64)) (has (getD s x 0) (j % 64))) (sym d)
+
+    go : Dec (j / 64 ≡ i / 64) → Dec (j ≡ i) → has (getD (set s (i / 64) w) (j / 64) 0) (j % 64) ≡ op (eqb j i) (has (getD s (j / 64) 0) (j % 64))
+    go (yes d) (yes f) = there d ∙ ap (λ (b : Bool). op b (has (getD s (j / 64) 0) (j % 64))) (eq-eqb (j % 64) (i % 64) (ap (λ (x : ℕ). x % 64) f) ∙ sym (eq-eqb j i f))
+    go (yes d) (no f) = there d ∙ ap (λ (b : Bool). op b (has (getD s (j / 64) 0) (j % 64))) (ne-eqb (j % 64) (i % 64) (λ z. f (omega arith)) ∙ sym (ne-eqb j i f))
+    go (no d) f =
+        ap (λ (x : ℕ). has x (j % 64)) (getD-set-other s (i / 64) (j / 64) w 0 d)
+        ∙ sym (id (has (getD s (j / 64) 0) (j % 64)))
+        ∙ ap (λ (b : Bool). op b (has (getD s (j / 64) 0) (j % 64))) (sym (ne-eqb j i (λ z. d (ap (λ (x : ℕ). x / 64) z))))
+
+-- one row more below a bound
+pub below-more : (j i : ℕ) → (eqb j i || ltb j i) ≡ ltb j (i + 1)
+below-more j i = go (ℕ-discrete j i) (decLt j i)
+  where
+    go : Dec (j ≡ i) → Dec (j < i) → (eqb j i || ltb j i) ≡ ltb j (i + 1)
+    go (yes e) d = ap (λ (b : Bool). b || ltb j i) (eq-eqb j i e) ∙ sym (lt-ltb j (i + 1) (omega arith))
+    go (no n) (yes l) = ap (λ (b : Bool). b || ltb j i) (ne-eqb j i n) ∙ lt-ltb j i l ∙ sym (lt-ltb j (i + 1) (omega arith))
+    go (no n) (no m) = ap (λ (b : Bool). b || ltb j i) (ne-eqb j i n) ∙ le-ltb j i (omega arith) ∙ sym (le-ltb j (i + 1) (omega arith))
+
+-- ---- two sets joined word by word, by an operation on flags
+
+-- the words of s before k are those of a and b joined, and the others are those of a
+pub record Joined (op : Bool → Bool → Bool) (a b s : List ℕ) (k : ℕ) : Type 0 where
+  pub long : length s ≡ 12
+  pub done : (m x : ℕ) → m < k → has (getD s m 0) x ≡ op (has (getD a m 0) x) (has (getD b m 0) x)
+  pub left : (m : ℕ) → k ≤ m → getD s m 0 ≡ getD a m 0
+
+module _ (op : Bool → Bool → Bool) (a b : List ℕ) where
+  pub joined-none : length a ≡ 12 → Joined op a b a 0
+  joined-none l = record { long = l; done = λ m x h. absurd (omega arith); left = λ m h. refl }
+
+  pub joined-more : (s : List ℕ) (k v : ℕ) → k < 12 → Joined op a b s k → ((x : ℕ) → has v x ≡ op (has (getD s k 0) x) (has (getD b k 0) x))
+      → Joined op a b (set s k v) (k + 1)
+  joined-more s k v l h e = record {
+    long = length-set s k v ∙ h .long;
+    done = λ m x n. go m x n (ℕ-discrete m k);
+    left = λ m n. getD-set-other s k m v 0 (λ z. omega arith) ∙ h .left m (omega arith);
+  }
+    where
+      go : (m x : ℕ) → m < k + 1 → Dec (m ≡ k) → has (getD (set s k v) m 0) x ≡ op (has (getD a m 0) x) (has (getD b m 0) x)
+      go m x n (yes d) =
+          ap (λ (y : ℕ). has (getD (set s k v) y 0) x) d ∙ ap (λ (y : ℕ). has y x) (getD-set-same s k v 0 (omega (arith, h .long))) ∙ e x
+          ∙ ap (λ (y : ℕ). op (has y x) (has (getD b k 0) x)) (h .left k (omega arith)) ∙ ap (λ (y : ℕ). op (has (getD a y 0) x) (has (getD b y 0) x)) (sym d)
+      go m x n (no d) = ap (λ (y : ℕ). has y x) (getD-set-other s k m v 0 d) ∙ h .done m x (omega arith)
+
+  pub joined-all : op false false ≡ false → length a ≡ 12 → length b ≡ 12 → (s : List ℕ) (k : ℕ) → Joined op a b s k → 12 ≤ k → (j : ℕ) → member s j ≡ op (member a j) (member b j)
+  unfolding member
+  joined-all e l m s k h g j = go (decLt (j / 64) 12)
+    where
+      go : Dec (j / 64 < 12) → has (getD s (j / 64) 0) (j % 64) ≡ op (has (getD a (j / 64) 0) (j % 64)) (has (getD b (j / 64) 0) (j % 64))
+      go (yes n) = h .done (j / 64) (j % 64) (omega arith)
+      go (no n) = member-past s j (omega (arith, h .long)) ∙ sym e ∙ ap₂ op (sym (member-past a j (omega arith))) (sym (member-past b j (omega arith)))
+
+-- ---- the first row
+
+-- what stands in the word of the row i from that row on
+word-before : (s : List ℕ) (i c j : ℕ) → Next (has (getD s (i / 64) 0)) (i % 64) 64 c → i ≤ j → j < i / 64 * 64 + c → member s j ≡ false
+unfolding member
+word-before s i c j h l m = let e : j / 64 ≡ i / 64 = omega (arith, h .within) in
+    ap (λ (x : ℕ). has (getD s x 0) (j % 64)) e ∙ h .before (j % 64) (omega arith) (omega arith)
+
+word-here : (s : List ℕ) (i c : ℕ) → Next (has (getD s (i / 64) 0)) (i % 64) 64 c → c < 64 → member s (i / 64 * 64 + c) ≡ true
+unfolding member
+word-here s i c h l =
+    let e : (i / 64 * 64 + c) / 64 ≡ i / 64 = omega arith in
+    let f : (i / 64 * 64 + c) % 64 ≡ c = omega arith in
+    ap (λ (x : ℕ). has (getD s x 0) ((i / 64 * 64 + c) % 64)) e ∙ ap (has (getD s (i / 64) 0)) f ∙ h .here l
+
+module _ (s : List ℕ) (from end i c : ℕ) (passed : (j : ℕ) → from ≤ j → j < i → member s j ≡ false) (word : Next (has (getD s (i / 64) 0)) (i % 64) 64 c) where
+  -- no row stands before the one that the word of i shows
+  pub passed-word : (j : ℕ) → from ≤ j → j < i / 64 * 64 + c → member s j ≡ false
+  passed-word j l m = go (decLt j i)
+    where
+      go : Dec (j < i) → member s j ≡ false
+      go (yes n) = passed j l n
+      go (no n) = word-before s i c j word (omega arith) m
+
+  pub next-found : from ≤ i → c < 64 → i / 64 * 64 + c < end → Next (member s) from end (i / 64 * 64 + c)
+  next-found f l h = record { above = omega (arith, word .above); within = omega arith; before = passed-word; here = λ n. word-here s i c word l }
+
+  pub next-past : from ≤ end → end ≤ i / 64 * 64 + c → Next (member s) from end end
+  next-past f h = record { above = f; within = omega arith; before = λ j l m. passed-word j l (omega arith); here = λ n. absurd (omega arith) }

@@ -1,0 +1,3 @@
+-- What a word of columns, a set of rows and a covering matrix on slices mean.
+pub mod Sets
+pub mod Matrix

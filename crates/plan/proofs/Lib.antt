@@ -1,0 +1,6 @@
+pub mod Weights
+pub mod Selections
+pub mod Refusals
+pub mod Endings
+pub mod Choice
+pub mod Refuted

@@ -1,0 +1,33 @@
+-- `primes::list_primes` meets its contract: the marked cubes are listed. Assumes nothing.
+use mathlib.Core.Path.{subst⁻¹}
+use Prim.Native.Nat.{ℕ, _^_, _≤_}
+use borrow.Author.Needs.{needs}
+use Rattle.cube.specs.Words.{prime, primesOf}
+use Rattle.cube.proofs.Calls.{cubes-most}
+use Rattle.primes.proofs.list_primes.Statement.{statement}
+use Rattle.primes.proofs.list_primes.Tie as tie
+
+slice-aggregate-mark-primes : tie.Need-slice-aggregate-mark-primes
+slice-aggregate-mark-primes c = search needs
+
+mark-primes-requires : tie.Need-mark-primes-requires
+mark-primes-requires c κs = let p = c .before .before .before .pre in record { width = p .0; cells = p .1; enough = cubes-most _ (p .0) }
+
+slice-aggregate-list-marked : tie.Need-slice-aggregate-list-marked
+slice-aggregate-list-marked c = search needs
+
+list-marked-requires : tie.Need-list-marked-requires
+list-marked-requires c κs =
+    let s = c .before .before .before .before .before .before .before in
+    (s .pre .0, subst⁻¹ (λ (i : ℕ). 3 ^ s .args .n ≤ i) (c .before .before .before .mark-primes .kept .1 .1 .0) (cubes-most _ (s .pre .0)), s .pre .2)
+
+same-length : tie.Need-same-length
+same-length c = search needs
+
+returns : tie.Need-returns
+unfolding primesOf
+returns c = let s = c .before .before .before .before .before .before .before .before .before .before .args in c .before .before .list-marked .ensures (prime (s .n) (s .table .now)) (c .before .before .before .before .before .before .mark-primes .ensures)
+
+pub list-primes-spec : {M : Type 1} → statement M
+list-primes-spec =
+    tie.close (tie.spec slice-aggregate-mark-primes mark-primes-requires slice-aggregate-list-marked list-marked-requires same-length returns)
