@@ -58,9 +58,6 @@ some-found m f k l e = is-true (some m f) (some-by m f k l (holds (f k) e))
 pub some-none : (m : ℕ) (f : ℕ → Bool) → ((k : ℕ) → k < m → f k ≡ false) → some m f ≡ false
 some-none m f h = is-false (some m f) (λ s. let r = some-at m f s in subst T (h (r .0) (r .1)) (r .2))
 
-pub some-missing : (m : ℕ) (f : ℕ → Bool) → some m f ≡ false → (k : ℕ) → k < m → f k ≡ false
-some-missing m f e k l = is-false (f k) (λ x. subst T e (some-by m f k l x))
-
 pub some-same : (m : ℕ) (f g : ℕ → Bool) → ((k : ℕ) → k < m → f k ≡ g k) → some m f ≡ some m g
 unfolding some
 some-same zero f g e = refl

@@ -1,12 +1,13 @@
 -- The first elements of a list: what is cut off twice is cut off once; one element more; and the first rows of two arrays, with one row more and how many they are. Assumes nothing.
-use mathlib.Core.Path.{_≡_, refl, ap, _∙_}
+use mathlib.Core.Path.{_≡_, refl, sym, ap, _∙_}
 use mathlib.Core.List.{List, [], _∷_, _++_}
 use Prim.Native.Nat.{ℕ, zero, suc, _+_, _<_, _≤_}
 use native.Mathlib.Nat.{not-suc-le-zero, le-of-suc-le-suc}
 use native.Mathlib.Numerals.{add-one}
 use lib.ListN.{length, take, getD}
-use lib.Seq.{take-suc}
+use lib.Seq.{length-take-le, take-suc}
 use Rattle.cube.specs.Words.{Cover, rowsOf}
+use Rattle.cube.proofs.Lists.{rows-length}
 
 -- what was cut off before more came is cut off after
 pub take-cut : (m : ℕ) (xs ys : List ℕ) → take m (take m xs ++ ys) ≡ take m (xs ++ ys)
@@ -29,8 +30,5 @@ rows-more (suc i) (v ∷ vs) (w ∷ ws) l m =
     ap (λ (rs : Cover). record { value = v; care = w } ∷ rs) (rows-more i vs ws (le-of-suc-le-suc l) (le-of-suc-le-suc m))
 
 pub rows-first : (i : ℕ) (vs ws : List ℕ) → i ≤ length vs → i ≤ length ws → length (rowsOf (take i vs) (take i ws)) ≡ i
-unfolding rowsOf
-rows-first zero vs ws l m = refl
-rows-first (suc i) [] ws l m = absurd (not-suc-le-zero l)
-rows-first (suc i) (v ∷ vs) [] l m = absurd (not-suc-le-zero m)
-rows-first (suc i) (v ∷ vs) (w ∷ ws) l m = ap suc (rows-first i vs ws (le-of-suc-le-suc l) (le-of-suc-le-suc m))
+rows-first i vs ws l m =
+    rows-length (take i vs) (take i ws) (length-take-le i vs l ∙ sym (length-take-le i ws m)) ∙ length-take-le i vs l

@@ -2,7 +2,7 @@
 -- character. Assumes nothing.
 use mathlib.Core.Path.{_≡_, refl, sym, ap, ap₂, _∙_, subst}
 use mathlib.Core.Logic.{_⊎_, inl, inr, ⊎-elim}
-use mathlib.Core.Bool.{Bool, true, false, cond, _&&_}
+use mathlib.Core.Bool.{Bool, true, false, cond, _&&_, _||_}
 use mathlib.Core.List.{List, [], _∷_, _++_, map}
 use Prim.Native.Nat.{ℕ, zero, suc, _+_, _<_, _≤_}
 use native.Mathlib.Omega.{arith}
@@ -13,7 +13,8 @@ use Rattle.cube.specs.Below.{some}
 use Rattle.cube.specs.Words.{cell}
 use Rattle.cube.specs.Calls.{badCell, Answer, refuses, gives}
 use Rattle.cube.proofs.Bools.{and-l, and-r, holds}
-use Rattle.cube.proofs.Below.{some-none, some-missing}
+use Rattle.cube.proofs.Below.{some-front}
+use Rattle.cube.proofs.Calls.{neither}
 use Rattle.text.specs.Characters.{lineFeed, digitCharacter, character}
 use Rattle.text.specs.Input.{textOf, InForm, Table, notInForm, isDigit, widthOf, isCell, cellOf, isEnd, before, readRun, ofWidth, read}
 use Rattle.text.specs.Theorems.{Grammar}
@@ -25,21 +26,18 @@ unfolding badCell some
 meant-none = refl
 
 module _ (c : ℕ) (cs : List ℕ) where
-  meant-more : c ≤ 2 → badCell cs ≡ false → badCell (c ∷ cs) ≡ false
+  bad-either : badCell (c ∷ cs) ≡ (ltb 2 c || badCell cs)
   unfolding badCell
-  meant-more l e = some-none (suc (length cs)) (λ i. ltb 2 (cell (c ∷ cs) i)) each
-    where
-      each : (i : ℕ) → i < suc (length cs) → ltb 2 (cell (c ∷ cs) i) ≡ false
-      each zero h = le-ltb 2 c l
-      each (suc i) h = some-missing (length cs) (λ i. ltb 2 (cell cs i)) e i (omega arith)
+  bad-either = some-front (length cs) (λ i. ltb 2 (cell (c ∷ cs) i))
+
+  meant-more : c ≤ 2 → badCell cs ≡ false → badCell (c ∷ cs) ≡ false
+  meant-more l e = bad-either ∙ ap₂ _||_ (le-ltb 2 c l) e
 
   meant-head : badCell (c ∷ cs) ≡ false → c ≤ 2
-  unfolding badCell
-  meant-head e = ltb-false 2 c (some-missing (suc (length cs)) (λ i. ltb 2 (cell (c ∷ cs) i)) e 0 (omega arith))
+  meant-head e = ltb-false 2 c (neither (ltb 2 c) (badCell cs) (sym bad-either ∙ e) .0)
 
   meant-tail : badCell (c ∷ cs) ≡ false → badCell cs ≡ false
-  unfolding badCell
-  meant-tail e = some-none (length cs) (λ i. ltb 2 (cell cs i)) (λ i h. some-missing (suc (length cs)) (λ i. ltb 2 (cell (c ∷ cs) i)) e (suc i) (omega arith))
+  meant-tail e = neither (ltb 2 c) (badCell cs) (sym bad-either ∙ e) .1
 
 cell-of-character : (c : ℕ) → c ≤ 2 → (cellOf (character c) ≡ c) × (eqb (character c) lineFeed ≡ false)
 cell-of-character zero l = (refl, refl)
