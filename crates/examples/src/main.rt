@@ -3,9 +3,11 @@ mod covers;
 mod cubes;
 mod print;
 mod terms;
+mod texts;
 
 fn main() {
     cubes::run();
     terms::run();
     covers::run();
+    texts::run();
 }
