@@ -3,4 +3,5 @@ pub mod Selections
 pub mod Refusals
 pub mod Endings
 pub mod Choice
+pub mod Answers
 pub mod Refuted

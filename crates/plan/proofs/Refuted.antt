@@ -1,6 +1,6 @@
 -- What Plan's promise leaves open of the counts: nothing. On each of the cases a to j the answer is the case's rows and bits, whatever the arrays held,
 -- and so wrong answers are shut out, each on a named case. Assumes nothing.
-use mathlib.Core.Path.{_≡_, refl, ap, ap₂, _∙_, subst}
+use mathlib.Core.Path.{_≡_, refl, ap, ap₂, _∙_}
 use mathlib.Core.List.{List, [], _∷_}
 use Prim.Native.Nat.{ℕ, zero, suc}
 use native.Mathlib.Omega.{arith}
@@ -14,6 +14,7 @@ use Rattle.cube.proofs.Minimum.{shortest}
 use Rattle.plan.specs.Plan.{planRefuses, Totals, totalsOf, planAnswer, Plans}
 use Rattle.plan.specs.declared.Planned.{Planned}
 use Rattle.plan.specs.declared.Planned.the-variants.{Rows, Refused}
+use Rattle.plan.proofs.Answers.{accepted-refused}
 
 abbrev rowsIn : Answer Totals → ℕ
 rowsIn (gives a) = a .rows
@@ -30,18 +31,6 @@ answer-on k h values cares values′ cares′ r e p =
     let same = shortest (k .width) (tableOf k) .counts (p .list) (h .list) (p .minimum e) (h .minimum) in
     p .answer ∙ ap (λ (i : ℕ). answered i (totalsOf (k .width) (p .list))) e
     ∙ ap₂ (λ (x y : ℕ). gives (record { rows = x; bits = y })) (same .0 ∙ h .rows) (same .1 ∙ h .bits)
-
--- a call for which no named condition holds is not refused
-pub accepted-refused : (n : ℕ) (t values cares values′ cares′ : List ℕ) (k : ℕ) → planRefuses n t (length values) (length cares) ≡ 0
-    → Plans n t values cares values′ cares′ (Refused k) → ⊥
-accepted-refused n t values cares values′ cares′ k e p = is-gives (p .answer ∙ ap (λ (i : ℕ). answered i (totalsOf n (p .list))) e)
-  where
-    tells : Answer Totals → Type 0
-    tells (gives a) = ⊥
-    tells (refuses i) = Unit
-
-    is-gives : refuses k ≡ gives (totalsOf n (p .list)) → ⊥
-    is-gives z = subst tells z tt
 
 -- ---- wrong answers on named cases, for any arrays with places enough
 
@@ -91,6 +80,6 @@ module _ (values cares values′ cares′ : List ℕ) where
 pub four-with-64-places : (values cares values′ cares′ : List ℕ) → length values ≡ 64 → length cares ≡ 64
     → Plans 6 (run 64 0 (λ c. 0)) values cares values′ cares′ (Refused 4) → ⊥
 unfolding run some badCell
-four-with-64-places values cares values′ cares′ v w =
+four-with-64-places values cares values′ cares′ v w p =
     let enough : planRefuses 6 (run 64 0 (λ c. 0)) 64 64 ≡ 0 = refl in
-    accepted-refused 6 (run 64 0 (λ c. 0)) values cares values′ cares′ 4 (ap₂ (λ (i j : ℕ). planRefuses 6 (run 64 0 (λ c. 0)) i j) v w ∙ enough)
+    accepted-refused 6 (run 64 0 (λ c. 0)) values cares values′ cares′ 4 p (ap₂ (λ (i j : ℕ). planRefuses 6 (run 64 0 (λ c. 0)) i j) v w ∙ enough)
