@@ -1,6 +1,6 @@
 -- `chartrows::prepare` meets its contract: where nothing is refused, the chart has a row for each prime, of which there are at most 3^n. Assumes nothing.
 use mathlib.Core.Path.{_≡_, refl, sym, _∙_}
-use Prim.Native.Nat.{ℕ, zero, suc, _^_, _≤_, zero-le}
+use Prim.Native.Nat.{ℕ, zero, suc, _^_, _≤_}
 use mathlib.Core.List.{List, []}
 use native.Mathlib.Omega.{arith}
 use lib.ListN.{length}
@@ -32,7 +32,7 @@ listing-refusal-requires c κs = search needs
 
 returns : tie.Need-returns
 unfolding firstRows
-returns c = record { refusal = c .before .listing-refusal .ensures; fits = (zero-le, zero-le); rows = nothing _ _ (c .if1 .taken) }
+returns c = record { refusal = c .before .listing-refusal .ensures; fits = (omega arith, omega arith); rows = nothing _ _ (c .if1 .taken) }
 
 build-requires : tie.Need-build-requires
 build-requires c κs = let a = c .before .before .before .args in let l = listable (a .n) (a .table .now) (a .places) (none c) in (l .table .to, l .table .cells)
