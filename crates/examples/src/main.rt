@@ -1,4 +1,5 @@
 // Runs the calls of document 01 on its edges and on worked examples, and prints what they answer and leave.
+mod charts;
 mod covers;
 mod cubes;
 mod print;
@@ -7,5 +8,6 @@ mod terms;
 fn main() {
     cubes::run();
     terms::run();
+    charts::run();
     covers::run();
 }
