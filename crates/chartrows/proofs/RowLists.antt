@@ -15,7 +15,7 @@ use Rattle.chart.specs.Chart.{primeAt, IsChart}
 use Rattle.chart.specs.declared.Arrays.{Arrays}
 use Rattle.chartrows.specs.declared.ChartRow.{ChartRow}
 use Rattle.chartrows.specs.declared.Prepared.{Prepared}
-use Rattle.chartrows.specs.Rows.{chartRow, chartOf, Charted, rowAt, firstRows, rowsOf, toWrite, Prepares}
+use Rattle.chartrows.specs.Rows.{chartRow, chartOf, Charted, rowAt, firstRows, arrayRows, toWrite, Prepares}
 
 -- ---- written one by one
 
@@ -63,26 +63,26 @@ module _ (n : ℕ) (t : List ℕ) (c : Arrays) (h : IsChart n t c) where
       ∙ sym (map-app (chartRow n t) (take m (primesOf n t)) (primeAt n t m ∷ []))
       ∙ ap (map (chartRow n t)) (sym (take-suc (primesOf n t) m 0 (omega (arith, h .rows))))
 
-  pub chart-rows : rowsOf c ≡ chartOf n t
+  pub chart-rows : arrayRows c ≡ chartOf n t
   chart-rows = first-are (c .rows) (omega arith) ∙ ap (λ (m : ℕ). map (chartRow n t) (take m (primesOf n t))) (h .rows) ∙ ap (map (chartRow n t)) (take-length (primesOf n t))
 
 -- ---- what Chart promises
 
 module _ (c : Arrays) (list : List ChartRow) where
-  count-is : rowsOf c ≡ list → c .rows ≡ length list
+  count-is : arrayRows c ≡ list → c .rows ≡ length list
   count-is e = sym (length-first c (c .rows)) ∙ ap length e
 
-  all-written : (k : ℕ) → rowsOf c ≡ toWrite k list → (old : List ChartRow) → upto c old (c .rows) ≡ written k list old
+  all-written : (k : ℕ) → arrayRows c ≡ toWrite k list → (old : List ChartRow) → upto c old (c .rows) ≡ written k list old
   all-written zero e old = ap₂ (λ (xs : List ChartRow) (m : ℕ). xs ++ drop m old) e (count-is e)
   all-written (suc k) e old = ap₂ (λ (xs : List ChartRow) (m : ℕ). xs ++ drop m old) e (sym (length-first c (c .rows)) ∙ ap length e)
 
-  all-counted : (k : ℕ) → rowsOf c ≡ toWrite k list → answered k (c .rows) ≡ answered k (length list)
+  all-counted : (k : ℕ) → arrayRows c ≡ toWrite k list → answered k (c .rows) ≡ answered k (length list)
   all-counted zero e = ap (answered 0) (count-is e)
   all-counted (suc k) e = refl
 
 pub charted : (n : ℕ) (t : List ℕ) (old new : List ChartRow) (p : Prepared) (r : Counted) → Prepares n t (length old) p
-    → new ≡ rowsOf (p .chart) ++ drop (p .chart .rows) old → countAnswer r ≡ answered (p .refusal) (p .chart .rows) → Charted n t old new r
+    → new ≡ arrayRows (p .chart) ++ drop (p .chart .rows) old → countAnswer r ≡ answered (p .refusal) (p .chart .rows) → Charted n t old new r
 charted n t old new p r h w a = record {
   answer = a ∙ all-counted (p .chart) (chartOf n t) (p .refusal) (h .rows) ∙ ap (λ (k : ℕ). answered k (length (chartOf n t))) (h .refusal);
-  rows = w ∙ all-written (p .chart) (chartOf n t) (p .refusal) (h .rows) old ∙ ap (λ (k : ℕ). written k (chartOf n t) old) (h .refusal);
+  places = w ∙ all-written (p .chart) (chartOf n t) (p .refusal) (h .rows) old ∙ ap (λ (k : ℕ). written k (chartOf n t) old) (h .refusal);
 }

@@ -6,7 +6,7 @@ use Prim.Native.Nat.{ℕ, zero, suc, _≤_}
 use mathlib.Core.List.{List, [], _∷_, _++_, map}
 use lib.ListN.{length, getD}
 use Rattle.cube.specs.Words.{cubeLiterals, primesOf}
-use Rattle.cube.specs.Calls.{answered, countAnswer, written}
+use Rattle.cube.specs.Calls.{Listed}
 use Rattle.cube.specs.declared.Counted.{Counted}
 use Rattle.primes.specs.Primes.{primesRefuses}
 use Rattle.chart.specs.Columns.{columnsOf}
@@ -22,10 +22,9 @@ chartRow n t q = record { cube = q; word = columnsOf n t q; literals = cubeLiter
 abbrev pub chartOf : ℕ → List ℕ → List ChartRow
 chartOf n t = map (chartRow n t) (primesOf n t)
 
--- What Chart promises of its answer and of the lent rows, refused input included.
-pub record Charted (n : ℕ) (t : List ℕ) (old new : List ChartRow) (r : Counted) : Type 0 where
-  pub answer : countAnswer r ≡ answered (primesRefuses n t (length old)) (length (chartOf n t))
-  pub rows : new ≡ written (primesRefuses n t (length old)) (chartOf n t) old
+-- What Chart promises of its answer and of the lent rows, refused input included: what every call does that writes a list.
+abbrev pub Charted : ℕ → List ℕ → List ChartRow → List ChartRow → Counted → Type 0
+Charted n t old new r = Listed (primesRefuses n t (length old)) (chartOf n t) old new r
 
 -- ---- the copy of the parallel arrays
 
@@ -39,8 +38,8 @@ firstRows a zero = []
 firstRows a (suc m) = firstRows a m ++ (rowAt a m ∷ [])
 
 -- the rows of the chart
-abbrev pub rowsOf : Arrays → List ChartRow
-rowsOf a = firstRows a (a .rows)
+abbrev pub arrayRows : Arrays → List ChartRow
+arrayRows a = firstRows a (a .rows)
 
 -- the rows to write: those of the list, and none where it is refused
 abbrev pub toWrite : ℕ → List ChartRow → List ChartRow
@@ -51,4 +50,4 @@ toWrite (suc k) list = []
 pub record Prepares (n : ℕ) (t : List ℕ) (places : ℕ) (p : Prepared) : Type 0 where
   pub refusal : p .refusal ≡ primesRefuses n t places
   pub fits : (p .chart .rows ≤ places) × (p .chart .rows ≤ 729)
-  pub rows : rowsOf (p .chart) ≡ toWrite (p .refusal) (chartOf n t)
+  pub rows : arrayRows (p .chart) ≡ toWrite (p .refusal) (chartOf n t)

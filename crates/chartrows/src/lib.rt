@@ -10,7 +10,7 @@ ghost use mathlib.Core.List.{_++_};
 ghost use Prim.Native.Nat.{_<_, _≤_};
 ghost use lib.ListN.{length, drop};
 ghost use Rattle.cube.specs.Calls.{answered, countAnswer};
-ghost use Rattle.chartrows.specs.Rows.{Charted, Prepares, rowAt, rowsOf};
+ghost use Rattle.chartrows.specs.Rows.{Charted, Prepares, rowAt, arrayRows};
 
 // A chart row: cube number, code word, tested bits.
 pub struct ChartRow {
@@ -34,7 +34,7 @@ fn row_at(chart: Arrays, i: usize) -> ChartRow
 // Copies the chart into the first of the lent rows.
 fn fill(rows: &mut [ChartRow], chart: Arrays)
     requires { ⌜ (chart .rows ≤ length (now rows)) × (chart .rows ≤ 729) ⌝ }
-    ensures { λ _. ⌜ now (rows .exit) ≡ rowsOf chart ++ drop (chart .rows) (now (rows .entry)) ⌝ }
+    ensures { λ _. ⌜ now (rows .exit) ≡ arrayRows chart ++ drop (chart .rows) (now (rows .entry)) ⌝ }
 {
     let mut i = 0;
     while i < chart.rows {

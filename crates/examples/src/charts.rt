@@ -1,6 +1,7 @@
 // Chart on cases a to j of document 01 and on its edges. A row is printed as its term, the wanted codes that it matches and its tested bits.
 use chartrows::ChartRow;
 use cube::Counted;
+use matrix::columns;
 ghost use Prim.Native.Nat.{_+_, _<_, _≤_};
 ghost use Rattle.examples.specs.Charts.{Lends};
 
@@ -24,18 +25,11 @@ fn chart_into(n: usize, table: &[u8], places: usize) -> Answered
     Answered { answer, rows }
 }
 
-fn has(word: u64, c: usize) -> bool {
-    if 63 < c {
-        return false;
-    }
-    word >> c & 1 == 1
-}
-
 // The codes whose bits are set in a word.
 fn codes(word: u64) {
     let mut c = 0;
     while c < 64 {
-        if has(word, c) {
+        if columns::has(word, c) {
             crate::print::space();
             crate::print::number(c);
         }

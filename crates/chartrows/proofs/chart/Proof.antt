@@ -46,7 +46,7 @@ use Rattle.chart.specs.declared.Arrays.{Arrays}
 use Rattle.chartrows.specs.declared.Prepared.{Prepared}
 use Rattle.cube.specs.Calls.{answered, countAnswer}
 use Rattle.cube.specs.declared.Counted.{Counted}
-use Rattle.chartrows.specs.Rows.{rowsOf, Charted, Prepares}
+use Rattle.chartrows.specs.Rows.{arrayRows, Charted, Prepares}
 use Rattle.chartrows.proofs.RowLists.{charted}
 use Rattle.chartrows.proofs.ChartRow as R
 use Rattle.chart.proofs.Arrays as B
@@ -172,7 +172,7 @@ module _ {M : Type 1} (𝓤 : URA M) (H : Heap 𝓤) (A : Atoms 𝓤) (W : Given
 
     -- the rows as `fill` leaves them
     abbrev filled : List ChartRow
-    filled = rowsOf (p .chart) ++ dropped (p .chart .rows) ys
+    filled = arrayRows (p .chart) ++ dropped (p .chart .rows) ys
 
     abbrev Counts : Counted → Type 0
     Counts r = countAnswer r ≡ answered (p .refusal) (p .chart .rows)
