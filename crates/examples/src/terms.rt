@@ -12,7 +12,7 @@ fn cell_of(character: u8) -> u8 {
 }
 
 // The cells of a table written as a run of 0, 1 and -.
-fn read_cells(text: &[u8], cells: &mut [u8]) {
+pub fn read_cells(text: &[u8], cells: &mut [u8]) {
     if cells.len() < text.len() {
         return;
     }
@@ -32,7 +32,7 @@ fn digit(d: usize) {
 }
 
 // The n digits of a cube, at most six of them.
-fn term(n: usize, cube: usize) {
+pub fn term(n: usize, cube: usize) {
     if 6 < n {
         return;
     }
@@ -97,7 +97,7 @@ fn example(name: &[u8], n: usize, text: &[u8]) {
     both_of(n, &cells, text.len(), &mut places, 729);
 }
 
-fn set_last(table: &mut [u8], cells: usize, last: u8) {
+pub fn set_last(table: &mut [u8], cells: usize, last: u8) {
     if cells < 1 {
         return;
     }
@@ -116,8 +116,7 @@ fn first_place(space: &[u16]) {
     crate::print::line_end();
 }
 
-// A table of so many cells, the last of which is given, and so many places, each of which holds 9 before.
-fn edge(n: usize, cells: usize, last: u8, places: usize) {
+pub fn edge_title(n: usize, cells: usize, last: u8, places: usize) {
     crate::print::text(b"width ");
     crate::print::number(n);
     crate::print::text(b", cells ");
@@ -127,6 +126,11 @@ fn edge(n: usize, cells: usize, last: u8, places: usize) {
     crate::print::text(b", places ");
     crate::print::number(places);
     crate::print::line_end();
+}
+
+// A table of so many cells, the last of which is given, and so many places, each of which holds 9 before.
+fn edge(n: usize, cells: usize, last: u8, places: usize) {
+    edge_title(n, cells, last, places);
     let mut table = [0u8; 65];
     set_last(&mut table, cells, last);
     let mut space = [9u16; 729];

@@ -1,6 +1,6 @@
 -- `chart::with_code` meets its contract: below bit c the word has room for it. Assumes nothing.
 use mathlib.Core.Path.{_≡_, sym, ap, _∙_}
-use mathlib.Core.Bool.{Bool, true, false, _&&_}
+use mathlib.Core.Bool.{Bool, false, _&&_}
 use mathlib.Core.List.{List}
 use Prim.Native.Nat.{ℕ, suc, _+_, _*_, _^_, _%_, _<_}
 use native.Mathlib.Nat.{pow-suc}
@@ -44,22 +44,32 @@ module _ (t : List ℕ) (v w c word : ℕ) where
 shared-slice-read-if1 : tie.Need-shared-slice-read-if1
 shared-slice-read-if1 c = search needs
 
+-- behind the test of the cell, the code is wanted
+wanted : (c : tie.Else1) → getD (c .before .before .args .table .now) (c .before .before .args .c) 0 ≡ 1
+wanted c = omega (arith, c .if1 .left)
+
 returns : tie.Need-returns
-returns c = let s = c .before .before .args in none (s .table .now) (s .value) (s .care) (s .c) (s .word) (unwanted (s .table .now) (s .value) (s .care) (s .c) (s .word) (c .if1 .taken))
+returns c =
+    let s = c .before .before .args in
+    none (s .table .now) (s .value) (s .care) (s .c) (s .word) (unwanted (s .table .now) (s .value) (s .care) (s .c) (s .word) (λ e. omega (arith, c .if1 .taken, e)))
 
 returns-2 : tie.Need-returns-2
 returns-2 c =
     let s = c .before .before .before .args in
-    none (s .table .now) (s .value) (s .care) (s .c) (s .word) (unmatched (s .table .now) (s .value) (s .care) (s .c) (s .word) (c .before .if1 .left) (c .if2 .taken))
+    none (s .table .now) (s .value) (s .care) (s .c) (s .word) (unmatched (s .table .now) (s .value) (s .care) (s .c) (s .word) (wanted (c .before)) (c .if2 .taken))
 
 shl-result : tie.Need-shl-result
 shl-result c = search needs
 
 add-result : tie.Need-add-result
-add-result c = record { fits = sum-fits _ _ (c .before .before .before .pre .1) (c .before .before .before .pre .2) }
+add-result c =
+    let s = c .before .before .before in
+    record { fits = omega (arith, sum-fits (s .args .c) (s .args .word) (s .pre .1) (s .pre .2)) }
 
 returns-3 : tie.Need-returns-3
-returns-3 c = let s = c .before .before .before .args in added (s .table .now) (s .value) (s .care) (s .c) (s .word) (c .before .if1 .left) (c .before .before .before .pre .1) (c .if2 .left)
+returns-3 c =
+    let s = c .before .before .before .args in
+    added (s .table .now) (s .value) (s .care) (s .c) (s .word) (wanted (c .before)) (c .before .before .before .pre .1) (c .if2 .left)
 
 pub with-code-spec : {M : Type 1} → statement M
 with-code-spec = tie.close (tie.spec shared-slice-read-if1 returns returns-2 shl-result add-result returns-3)

@@ -1,0 +1,88 @@
+// Chart: a lent list of rows, one per prime. The core on parallel arrays, `chart::build`, finds what stands in them; here
+// they are copied into the lent rows.
+//
+//     let mut rows = [ChartRow { cube: 0, word: 0, literals: 0 }; 9];
+//     chartrows::chart(2, &[1, 0, 0, 2], &mut rows)   // count 2: cube 0 (00) with the word 1, cube 4 (11) with the word 0
+use chart::Arrays;
+use cube::Counted;
+ghost use mathlib.Core.Path.{_≡_};
+ghost use mathlib.Core.List.{_++_};
+ghost use Prim.Native.Nat.{_<_, _≤_};
+ghost use lib.ListN.{length, drop};
+ghost use Rattle.cube.specs.Calls.{answered, countAnswer};
+ghost use Rattle.chartrows.specs.Rows.{Charted, Prepares, rowAt, arrayRows};
+
+// A chart row: cube number, code word, tested bits.
+pub struct ChartRow {
+    pub cube: u16,
+    pub word: u64,
+    pub literals: u8,
+}
+
+// The row at place i of the parallel arrays.
+fn row_at(chart: Arrays, i: usize) -> ChartRow
+    requires { ⌜ i < 729 ⌝ }
+    ensures { λ r. ⌜ r ≡ rowAt chart i ⌝ }
+{
+    ChartRow {
+        cube: chart.cubes[i],
+        word: chart.words[i],
+        literals: chart.literals[i],
+    }
+}
+
+// Copies the chart into the first of the lent rows.
+fn fill(rows: &mut [ChartRow], chart: Arrays)
+    requires { ⌜ (chart .rows ≤ length (now rows)) × (chart .rows ≤ 729) ⌝ }
+    ensures { λ _. ⌜ now (rows .exit) ≡ arrayRows chart ++ drop (chart .rows) (now (rows .entry)) ⌝ }
+{
+    let mut i = 0;
+    while i < chart.rows {
+        rows[i] = row_at(chart, i);
+        i += 1;
+    }
+}
+
+// What is to be answered and written: the refusal, or 0, and the chart, which has no row where it is refused.
+struct Prepared {
+    refusal: u8,
+    chart: Arrays,
+}
+
+fn prepare(n: usize, table: &[u8], places: usize) -> Prepared
+    ensures { λ r. ⌜ Prepares n (now (table .entry)) places r ⌝ }
+{
+    let k = primes::listing_refusal(n, table, places);
+    if k != 0 {
+        return Prepared {
+            refusal: k,
+            chart: Arrays {
+                rows: 0,
+                cubes: [0; 729],
+                words: [0; 729],
+                literals: [0; 729],
+            },
+        };
+    }
+    Prepared {
+        refusal: 0,
+        chart: chart::build(n, table),
+    }
+}
+
+fn answer(prepared: Prepared) -> Counted
+    ensures { λ r. ⌜ countAnswer r ≡ answered (prepared .refusal) (prepared .chart .rows) ⌝ }
+{
+    if prepared.refusal != 0 {
+        return Counted::Refused(prepared.refusal);
+    }
+    Counted::Count(prepared.chart.rows)
+}
+
+pub fn chart(n: usize, table: &[u8], rows: &mut [ChartRow]) -> Counted
+    ensures { λ r. ⌜ Charted n (now (table .entry)) (now (rows .entry)) (now (rows .exit)) r ⌝ }
+{
+    let prepared = prepare(n, table, rows.len());
+    fill(rows, prepared.chart);
+    answer(prepared)
+}
