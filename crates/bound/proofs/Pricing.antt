@@ -100,11 +100,12 @@ module _ (words weights : List ℕ) where
   pub kept-without : (live rest prices : List ℕ) (u limit i s paid total : ℕ) → ((j : ℕ) → member rest j ≡ (member live j && not (eqb j i)))
       → ((x : ℕ) → has s x ≡ (has (getD words i 0) x && has u x)) → paid ≡ worth prices s → total ≡ worth prices u → Feasible words weights live u prices
       → limit + paid ≤ weightOf weights i + total → Kept words weights live u limit rest
-  kept-without live rest prices u limit i s paid total e d ep et f l = record
-    { fewer = left-in live rest i e
-    ; low = λ k m b. branch (covers words) (weightOf weights) i (left-rest live rest i e) k (λ c h. kept-of (has u c) (has (getD words i 0) c) (gone c) h)
+  kept-without live rest prices u limit i s paid total e d ep et f l = record {
+    fewer = left-in live rest i e;
+    low = λ k m b. branch (covers words) (weightOf weights) i (left-rest live rest i e) k (λ c h. kept-of (has u c) (has (getD words i 0) c) (gone c) h)
         (feasible-low rest prices left (feasible-less live rest prices u left (left-in live rest i e) (λ x h. kept-of (has u x) (has (getD words i 0) x) (gone x) h .0) f)) b
-        (omega (arith, ep, et, worth-split prices u s left (λ c. has (getD words i 0) c) d gone)) (omega arith) }
+        (omega (arith, ep, et, worth-split prices u s left (λ c. has (getD words i 0) c) d gone)) (omega arith);
+  }
     where
       left : ℕ
       left = bitXor u (bitAnd u (getD words i 0))

@@ -2,6 +2,7 @@
 mod charts;
 mod covers;
 mod cubes;
+mod plans;
 mod print;
 mod terms;
 mod texts;
@@ -10,6 +11,7 @@ fn main() {
     cubes::run();
     terms::run();
     charts::run();
+    plans::run();
     covers::run();
     texts::run();
 }

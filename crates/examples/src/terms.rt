@@ -1,4 +1,4 @@
-// Primes and Essentials on the worked examples of `tests/examples` and on the edges of document 01. A term is printed as the papers have it, x1
+// Primes, Essentials and Plan on the worked examples of `tests/examples` and on the edges of document 01. A term is printed as the papers have it, x1
 // first, `-` for untested.
 use cube::Counted;
 
@@ -95,6 +95,7 @@ fn example(name: &[u8], n: usize, text: &[u8]) {
     read_cells(text, &mut cells);
     let mut places = [0u16; 729];
     both_of(n, &cells, text.len(), &mut places, 729);
+    crate::plans::plan_of(n, &cells, text.len(), text.len(), text.len());
 }
 
 pub fn set_last(table: &mut [u8], cells: usize, last: u8) {

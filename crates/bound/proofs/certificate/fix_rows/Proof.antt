@@ -22,9 +22,13 @@ loop-holds c = (search needs, kept-all _ _ _ _ _)
 fix-row-requires : tie.Need-fix-row-requires Inv-loop μ-loop
 fix-row-requires c κs =
     let s = c .before .before .before .before .before .before in
-    let a = s .args in
-    (s .pre .0, c .loop-test .taken, s .pre .1, s .pre .2,
-    feasible-less (a .words .now) (a .weights .now) (a .live) _ (a .prices .now) _ _ (c .before .loop .inv .1 .fewer) (λ x h. h) (s .pre .3))
+    let a = s .args in (
+      s .pre .0,
+      c .loop-test .taken,
+      s .pre .1,
+      s .pre .2,
+      feasible-less (a .words .now) (a .weights .now) (a .live) _ (a .prices .now) _ _ (c .before .loop .inv .1 .fewer) (λ x h. h) (s .pre .3),
+    )
 
 add-next : tie.Need-add-next Inv-loop μ-loop
 add-next c = search needs
