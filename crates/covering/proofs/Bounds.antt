@@ -78,6 +78,24 @@ module _ (cov : ℕ → ℕ → Type 0) where
   pub uncoverable : {w : ℕ → ℕ} {A U : ℕ → Type 0} (c k : ℕ) → U c → ((i : ℕ) → A i → cov i c → ⊥) → AtLeast cov w A U k
   uncoverable c k u f = record { bound = λ L l s. let t = hitter L c l (s c u) in absurd (f (t .0) (t .1) (t .2)) }
 
+  -- rows that cover nothing may be left out of account
+  module _ (w : ℕ → ℕ) {A A′ : ℕ → Type 0} (either : (i : ℕ) → A i → A′ i ⊎ ((c : ℕ) → cov i c → ⊥)) where
+    Trimmed : List ℕ → Type 0
+    Trimmed L = (M : List ℕ) × Within A′ M × (weight w M ≤ weight w L) × ((c : ℕ) → Hits cov L c → Hits cov M c)
+
+    trim : (L : List ℕ) → Within A L → Trimmed L
+    unfolding Trimmed
+    trim [] l = ([], tt, omega arith, λ c h. h)
+    trim (x ∷ L) l = go (either x (l .0)) (trim L (l .1))
+      where
+        go : A′ x ⊎ ((c : ℕ) → cov x c → ⊥) → Trimmed L → Trimmed (x ∷ L)
+        go (inl a) m = (x ∷ m .0, (a, m .1), omega (arith, m .2), λ c h. ⊎-elim inl (λ y. inr (m .3 c y)) h)
+        go (inr f) m = (m .0, m .1, omega (arith, m .2), λ c h. ⊎-elim (λ y. absurd (f c y)) (m .3 c) h)
+
+    pub useful : {U : ℕ → Type 0} {k : ℕ} → AtLeast cov w A′ U k → AtLeast cov w A U k
+    unfolding Trimmed
+    useful b = record { bound = λ L l s. let m = trim L l in omega (arith, m .2, b .bound (m .0) (m .1) (λ c u. m .3 c (s c u))) }
+
   -- the inequality of a column, times y
   pub column : {a : ℕ → ℕ} {A U : ℕ → Type 0} (c y : ℕ) → U c → ((i : ℕ) → A i → cov i c → y ≤ a i) → AtLeast cov a A U y
   column c y u f = record { bound = λ L l s. hit-weighs c y f L l (s c u) }

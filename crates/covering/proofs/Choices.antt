@@ -12,9 +12,9 @@ use borrow.Author.Tests.{ltb-true, lt-ltb}
 use Rattle.covering.specs.Sum.{pick, sum}
 use Rattle.covering.specs.Cover.{Within, Hits, Covers, weight, AtLeast, Minimum, Cover, rowsOf, total}
 use Rattle.covering.specs.Search.{none, Reduced, Answers, Tried}
-use Rattle.covering.proofs.Sums.{sum-most, pick-le}
-use Rattle.covering.proofs.Bounds.{within-append, weight-append, hits-append, nothing, smaller, uncoverable, branch}
-use Rattle.covering.proofs.Reductions.{cover-same, cover-nothing, cover-with}
+use Rattle.covering.proofs.Sums.{sum-most, sum-skip, pick-le, pick-false}
+use Rattle.covering.proofs.Bounds.{within-mono, within-append, weight-append, hits-append, nothing, smaller, uncoverable, branch}
+use Rattle.covering.proofs.Reductions.{not-set, cover-same, cover-nothing, cover-with}
 
 module _ (cov : ℕ → ℕ → Type 0) (w : ℕ → ℕ) (n : ℕ) where
   -- ---- answers
@@ -26,10 +26,6 @@ module _ (cov : ℕ → ℕ → Type 0) (w : ℕ → ℕ) (n : ℕ) where
   -- no cover is below the limit
   pub answer-none : {A U : ℕ → Type 0} {limit k : ℕ} (p : ℕ → Bool) → AtLeast cov w A U k → limit ≤ k → Answers cov w n A U limit limit p
   answer-none p b l = record { low = smaller cov l b; within = omega arith; cover = λ h. absurd (omega arith) }
-
-  -- a cover is known, and none is lighter
-  pub answer-known : {A U : ℕ → Type 0} {limit k : ℕ} {p : ℕ → Bool} → AtLeast cov w A U k → k ≤ limit → (k < limit → Cover cov w n A U p k) → Answers cov w n A U limit k p
-  answer-known b l x = record { low = b; within = l; cover = x }
 
   -- after a reduction
   pub answer-reduced : {A A′ U U′ : ℕ → Type 0} {t p q : ℕ → Bool} {a k limit room : ℕ} → Reduced cov w n A U A′ U′ t a → room + a ≡ limit
@@ -114,13 +110,14 @@ rows-weight w (suc n) p = omega (arith, weight-append w (rowsOf n p) (cond (p n)
     last false = refl
 
 -- An answer is a minimum cover, where the rows are those below n, each column has one, and all of them together weigh less than the limit.
-pub minimum : (cov : ℕ → ℕ → Type 0) (w : ℕ → ℕ) (n m : ℕ) {A U : ℕ → Type 0} {limit k : ℕ} {p : ℕ → Bool} → ((i : ℕ) → A i → i < n) → ((i : ℕ) → i < n → A i)
-    → ((c : ℕ) → U c → (i : ℕ) × (i < n) × cov i c) → ((i : ℕ) → w i ≤ m) → n * m < limit → Answers cov w n A U limit k p → Minimum cov w A U (rowsOf n p) k
-minimum cov w n m {A} {U} {limit} {k} {p} below all row most l f = record {
-  within = rows-within A n p (found .live);
+pub minimum : (cov : ℕ → ℕ → Type 0) (w : ℕ → ℕ) (N n m : ℕ) {A U : ℕ → Type 0} {limit k : ℕ} {p : ℕ → Bool} → n ≤ N → ((i : ℕ) → A i → i < n) → ((i : ℕ) → i < n → A i)
+    → ((c : ℕ) → U c → (i : ℕ) × (i < n) × cov i c) → ((i : ℕ) → w i ≤ m) → n * m < limit → Answers cov w N A U limit k p
+    → Minimum cov w (λ i. i < n) U (rowsOf n p) k
+minimum cov w N n m {A} {U} {limit} {k} {p} le below all row most l f = record {
+  within = rows-within (λ i. i < n) n p (λ i e. below i (found .live i e));
   covers = λ c u. let t = found .covers c u in rows-hit cov c n p (t .0) (below (t .0) (found .live (t .0) (t .1))) (t .1) (t .2);
-  weighs = rows-weight w n p ∙ found .weighs;
-  least = f .low .bound;
+  weighs = rows-weight w n p ∙ sym (sum-skip n N le (λ i h o. pick-false (w i) (past i h))) ∙ found .weighs;
+  least = λ M h s. f .low .bound M (within-mono all M h) s;
 }
   where
     every : ℕ → Bool
@@ -129,10 +126,13 @@ minimum cov w n m {A} {U} {limit} {k} {p} below all row most l f = record {
     light : weight w (rowsOf n every) ≤ n * m
     light = omega (arith, rows-weight w n every, sum-most n m {f = λ i. pick (every i) (w i)} (λ i. omega (arith, pick-le (every i) (w i), most i)))
 
-    found : Cover cov w n A U p k
+    found : Cover cov w N A U p k
     found = f .cover (omega (
       arith,
       light,
       f .low .bound (rowsOf n every) (rows-within A n every (λ i e. all i (ltb-true i n e)))
           (λ c u. let t = row c u in rows-hit cov c n every (t .0) (t .1) (lt-ltb (t .0) n (t .1)) (t .2)),
     ))
+
+    past : (i : ℕ) → n ≤ i → p i ≡ false
+    past i h = not-set (p i) (λ e. let b = below i (found .live i e) in omega arith)

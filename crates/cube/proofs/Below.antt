@@ -334,3 +334,15 @@ run-from f (suc m) i (suc k) h = run-from f m (suc i) k (le-of-suc-le-suc h) ∙
 -- A constant table that is the run of a definition: the checker computes the run and compares it with the table once, and this is the rule at each entry.
 pub run-at : (f : ℕ → ℕ) (m k : ℕ) → k < m → getD (run m 0 f) k 0 ≡ f k
 run-at f m k h = run-from f m 0 k h ∙ ap f (zero-add k)
+
+pub run-length : (f : ℕ → ℕ) (m i : ℕ) → length (run m i f) ≡ m
+unfolding run
+run-length f zero i = refl
+run-length f (suc m) i = ap suc (run-length f m (suc i))
+
+-- one value more
+pub run-more : (f : ℕ → ℕ) (m i : ℕ) → run (suc m) i f ≡ run m i f ++ (f (i + m) ∷ [])
+unfolding run
+run-more f zero i = ap (λ (k : ℕ). f k ∷ []) (sym (add-zero i))
+run-more f (suc m) i =
+    ap (λ (l : List ℕ). f i ∷ l) (run-more f m (suc i) ∙ ap (λ (k : ℕ). run m (suc i) f ++ (f k ∷ [])) (suc-add i m ∙ sym (add-suc i m)))

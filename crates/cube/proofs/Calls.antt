@@ -19,7 +19,7 @@ use Rattle.cube.proofs.Lent.{sets-front}
 
 -- ---- a good width
 
-neither : (a b : Bool) → (a || b) ≡ false → (a ≡ false) × (b ≡ false)
+pub neither : (a b : Bool) → (a || b) ≡ false → (a ≡ false) × (b ≡ false)
 neither false b e = (refl, e)
 neither true b e = absurd (true≢false e)
 

@@ -10,6 +10,7 @@ pub mod Theorems
 pub mod Independent
 pub mod Cases
 pub mod Lent
+pub mod Fronts
 pub mod Calls
 pub mod Lists
 pub mod McCluskey

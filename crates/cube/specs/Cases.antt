@@ -40,17 +40,36 @@ abbrev pub AllHold : List Case → Type 0
 AllHold [] = Unit
 AllHold (k ∷ ks) = Holds k × AllHold ks
 
+abbrev pub case-a : Case
+case-a = record { width = 1; wanted = []; free = []; primes = 0; essentials = 0; rows = 0; bits = 0 }
+
+abbrev pub case-b : Case
+case-b = record { width = 1; wanted = 0 ∷ 1 ∷ []; free = []; primes = 1; essentials = 1; rows = 1; bits = 0 }
+
+abbrev pub case-c : Case
+case-c = record { width = 2; wanted = 3 ∷ []; free = 1 ∷ []; primes = 1; essentials = 1; rows = 1; bits = 1 }
+
+abbrev pub case-d : Case
+case-d = record { width = 2; wanted = 0 ∷ []; free = 3 ∷ []; primes = 2; essentials = 1; rows = 1; bits = 2 }
+
+abbrev pub case-e : Case
+case-e = record { width = 3; wanted = 1 ∷ 2 ∷ 3 ∷ 4 ∷ 5 ∷ 6 ∷ []; free = []; primes = 6; essentials = 0; rows = 3; bits = 6 }
+
+abbrev pub case-f : Case
+case-f = record { width = 4; wanted = 7 ∷ 9 ∷ 10 ∷ 12 ∷ 13 ∷ 14 ∷ 15 ∷ []; free = []; primes = 4; essentials = 4; rows = 4; bits = 11 }
+
+abbrev pub case-g : Case
+case-g = record { width = 4; wanted = 0 ∷ 1 ∷ 2 ∷ 3 ∷ 4 ∷ 6 ∷ 7 ∷ 8 ∷ 9 ∷ 11 ∷ 15 ∷ []; free = []; primes = 6; essentials = 3; rows = 3; bits = 6 }
+
+abbrev pub case-h : Case
+case-h = record { width = 4; wanted = 0 ∷ 1 ∷ 8 ∷ 9 ∷ 10 ∷ []; free = []; primes = 2; essentials = 2; rows = 2; bits = 5 }
+
+abbrev pub case-i : Case
+case-i = record { width = 4; wanted = 0 ∷ 1 ∷ 2 ∷ 3 ∷ 5 ∷ 6 ∷ 8 ∷ 11 ∷ []; free = []; primes = 5; essentials = 4; rows = 4; bits = 12 }
+
+abbrev pub case-j : Case
+case-j = record { width = 4; wanted = 0 ∷ 1 ∷ 2 ∷ 5 ∷ 6 ∷ 7 ∷ 9 ∷ 10 ∷ 11 ∷ 13 ∷ 14 ∷ 15 ∷ []; free = []; primes = 8; essentials = 0; rows = 4; bits = 9 }
+
 -- a, b, c, d, e, f, g, h, i, j
 unfoldable pub cases : List Case
-cases =
-    record { width = 1; wanted = []; free = []; primes = 0; essentials = 0; rows = 0; bits = 0 }
-    ∷ record { width = 1; wanted = 0 ∷ 1 ∷ []; free = []; primes = 1; essentials = 1; rows = 1; bits = 0 }
-    ∷ record { width = 2; wanted = 3 ∷ []; free = 1 ∷ []; primes = 1; essentials = 1; rows = 1; bits = 1 }
-    ∷ record { width = 2; wanted = 0 ∷ []; free = 3 ∷ []; primes = 2; essentials = 1; rows = 1; bits = 2 }
-    ∷ record { width = 3; wanted = 1 ∷ 2 ∷ 3 ∷ 4 ∷ 5 ∷ 6 ∷ []; free = []; primes = 6; essentials = 0; rows = 3; bits = 6 }
-    ∷ record { width = 4; wanted = 7 ∷ 9 ∷ 10 ∷ 12 ∷ 13 ∷ 14 ∷ 15 ∷ []; free = []; primes = 4; essentials = 4; rows = 4; bits = 11 }
-    ∷ record { width = 4; wanted = 0 ∷ 1 ∷ 2 ∷ 3 ∷ 4 ∷ 6 ∷ 7 ∷ 8 ∷ 9 ∷ 11 ∷ 15 ∷ []; free = []; primes = 6; essentials = 3; rows = 3; bits = 6 }
-    ∷ record { width = 4; wanted = 0 ∷ 1 ∷ 8 ∷ 9 ∷ 10 ∷ []; free = []; primes = 2; essentials = 2; rows = 2; bits = 5 }
-    ∷ record { width = 4; wanted = 0 ∷ 1 ∷ 2 ∷ 3 ∷ 5 ∷ 6 ∷ 8 ∷ 11 ∷ []; free = []; primes = 5; essentials = 4; rows = 4; bits = 12 }
-    ∷ record { width = 4; wanted = 0 ∷ 1 ∷ 2 ∷ 5 ∷ 6 ∷ 7 ∷ 9 ∷ 10 ∷ 11 ∷ 13 ∷ 14 ∷ 15 ∷ []; free = []; primes = 8; essentials = 0; rows = 4; bits = 9 }
-    ∷ []
+cases = case-a ∷ case-b ∷ case-c ∷ case-d ∷ case-e ∷ case-f ∷ case-g ∷ case-h ∷ case-i ∷ case-j ∷ []

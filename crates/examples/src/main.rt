@@ -4,10 +4,12 @@ mod covers;
 mod cubes;
 mod print;
 mod terms;
+mod texts;
 
 fn main() {
     cubes::run();
     terms::run();
     charts::run();
     covers::run();
+    texts::run();
 }

@@ -189,3 +189,11 @@ next-some x f l n = record {
 
     found : In x (f + t)
     found = sym (has-shr x f t) ∙ lowest-in 64 (x / 2 ^ f) (omega arith) (lt-of-le-of-lt (div-le-self x (2 ^ f)) l)
+
+-- the first column of a set that has one
+pub first-in : (x : ℕ) {r : ℕ} → x < 2 ^ 64 → (c : ℕ) × In x c → Next (has x) 0 64 r → In x r
+first-in x {r} l i n = go (decLt r 64)
+  where
+    go : Dec (r < 64) → In x r
+    go (yes h) = n .here h
+    go (no h) = absurd (let b = in-below x (i .0) 64 l (i .1) in let e : true ≡ false = sym (i .1) ∙ n .before (i .0) (omega arith) (omega (arith, n .within)) in let z : _≡_ {A = ℕ} 0 1 = cc in omega arith)

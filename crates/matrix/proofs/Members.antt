@@ -1,7 +1,7 @@
 -- Sets of rows as words: what a word put in changes, two sets joined word by word, and the first row of a set. Assumes nothing.
-use mathlib.Core.Path.{_≡_, refl, sym, ap, subst, _∙_}
+use mathlib.Core.Path.{_≡_, refl, sym, ap, ap₂, _∙_}
 use mathlib.Core.List.{List}
-use mathlib.Core.Bool.{Bool, true, false, not, _&&_, _||_, or-false, and-true}
+use mathlib.Core.Bool.{Bool, true, false, not, _&&_, _||_}
 use Prim.Native.Nat.{ℕ, _+_, _*_, _/_, _%_, _≤_, _<_}
 use native.Mathlib.Decide.{ℕ-discrete, decLt}
 use native.Mathlib.Omega.{arith}
@@ -56,39 +56,39 @@ below-more j i = go (ℕ-discrete j i) (decLt j i)
     go (no n) (yes l) = ap (λ (b : Bool). b || ltb j i) (ne-eqb j i n) ∙ lt-ltb j i l ∙ sym (lt-ltb j (i + 1) (omega arith))
     go (no n) (no m) = ap (λ (b : Bool). b || ltb j i) (ne-eqb j i n) ∙ le-ltb j i (omega arith) ∙ sym (le-ltb j (i + 1) (omega arith))
 
--- ---- two sets joined
+-- ---- two sets joined word by word, by an operation on flags
 
 -- the words of s before k are those of a and b joined, and the others are those of a
-pub record Joined (a b s : List ℕ) (k : ℕ) : Type 0 where
+pub record Joined (op : Bool → Bool → Bool) (a b s : List ℕ) (k : ℕ) : Type 0 where
   pub long : length s ≡ 12
-  pub done : (m x : ℕ) → m < k → has (getD s m 0) x ≡ (has (getD a m 0) x || has (getD b m 0) x)
+  pub done : (m x : ℕ) → m < k → has (getD s m 0) x ≡ op (has (getD a m 0) x) (has (getD b m 0) x)
   pub left : (m : ℕ) → k ≤ m → getD s m 0 ≡ getD a m 0
 
-pub joined-none : (a b : List ℕ) → length a ≡ 12 → Joined a b a 0
-joined-none a b l = record { long = l; done = λ m x h. absurd (omega arith); left = λ m h. refl }
+module _ (op : Bool → Bool → Bool) (a b : List ℕ) where
+  pub joined-none : length a ≡ 12 → Joined op a b a 0
+  joined-none l = record { long = l; done = λ m x h. absurd (omega arith); left = λ m h. refl }
 
-pub joined-more : (a b s : List ℕ) (k v : ℕ) → k < 12 → Joined a b s k → ((x : ℕ) → has v x ≡ (has (getD s k 0) x || has (getD b k 0) x)) → Joined a b (set s k v) (k + 1)
-joined-more a b s k v l h e = record {
-  long = length-set s k v ∙ h .long;
-  done = λ m x n. go m x n (ℕ-discrete m k);
-  left = λ m n. getD-set-other s k m v 0 (λ z. omega arith) ∙ h .left m (omega arith);
-}
-  where
-    go : (m x : ℕ) → m < k + 1 → Dec (m ≡ k) → has (getD (set s k v) m 0) x ≡ (has (getD a m 0) x || has (getD b m 0) x)
-    go m x n (yes d) =
-        ap (λ (y : ℕ). has (getD (set s k v) y 0) x) d ∙ ap (λ (y : ℕ). has y x) (getD-set-same s k v 0 (omega (arith, h .long))) ∙ e x
-        ∙ ap (λ (y : ℕ). has y x || has (getD b k 0) x) (h .left k (omega arith)) ∙ ap (λ (y : ℕ). has (getD a y 0) x || has (getD b y 0) x) (sym d)
-    go m x n (no d) = ap (λ (y : ℕ). has y x) (getD-set-other s k m v 0 d) ∙ h .done m x (omega arith)
+  pub joined-more : (s : List ℕ) (k v : ℕ) → k < 12 → Joined op a b s k → ((x : ℕ) → has v x ≡ op (has (getD s k 0) x) (has (getD b k 0) x))
+      → Joined op a b (set s k v) (k + 1)
+  joined-more s k v l h e = record {
+    long = length-set s k v ∙ h .long;
+    done = λ m x n. go m x n (ℕ-discrete m k);
+    left = λ m n. getD-set-other s k m v 0 (λ z. omega arith) ∙ h .left m (omega arith);
+  }
+    where
+      go : (m x : ℕ) → m < k + 1 → Dec (m ≡ k) → has (getD (set s k v) m 0) x ≡ op (has (getD a m 0) x) (has (getD b m 0) x)
+      go m x n (yes d) =
+          ap (λ (y : ℕ). has (getD (set s k v) y 0) x) d ∙ ap (λ (y : ℕ). has y x) (getD-set-same s k v 0 (omega (arith, h .long))) ∙ e x
+          ∙ ap (λ (y : ℕ). op (has y x) (has (getD b k 0) x)) (h .left k (omega arith)) ∙ ap (λ (y : ℕ). op (has (getD a y 0) x) (has (getD b y 0) x)) (sym d)
+      go m x n (no d) = ap (λ (y : ℕ). has y x) (getD-set-other s k m v 0 d) ∙ h .done m x (omega arith)
 
-pub joined-all : (a b s : List ℕ) (k : ℕ) → length b ≡ 12 → 12 ≤ k → Joined a b s k → k ≤ 12 → (j : ℕ) → member s j ≡ (member a j || member b j)
-unfolding member
-joined-all a b s k l g h f j = go (decLt (j / 64) 12)
-  where
-    go : Dec (j / 64 < 12) → has (getD s (j / 64) 0) (j % 64) ≡ (has (getD a (j / 64) 0) (j % 64) || has (getD b (j / 64) 0) (j % 64))
-    go (yes n) = h .done (j / 64) (j % 64) (omega arith)
-    go (no n) =
-        ap (λ (y : ℕ). has y (j % 64)) (h .left (j / 64) (omega arith)) ∙ sym (or-false (has (getD a (j / 64) 0) (j % 64)))
-        ∙ ap (λ (t : Bool). has (getD a (j / 64) 0) (j % 64) || t) (sym (member-past b j (omega arith)))
+  pub joined-all : op false false ≡ false → length a ≡ 12 → length b ≡ 12 → (s : List ℕ) (k : ℕ) → Joined op a b s k → 12 ≤ k → (j : ℕ) → member s j ≡ op (member a j) (member b j)
+  unfolding member
+  joined-all e l m s k h g j = go (decLt (j / 64) 12)
+    where
+      go : Dec (j / 64 < 12) → has (getD s (j / 64) 0) (j % 64) ≡ op (has (getD a (j / 64) 0) (j % 64)) (has (getD b (j / 64) 0) (j % 64))
+      go (yes n) = h .done (j / 64) (j % 64) (omega arith)
+      go (no n) = member-past s j (omega (arith, h .long)) ∙ sym e ∙ ap₂ op (sym (member-past a j (omega arith))) (sym (member-past b j (omega arith)))
 
 -- ---- the first row
 

@@ -13,6 +13,11 @@ has x c = eqb (x / 2 ^ c % 2) 1
 abbrev pub In : ℕ → ℕ → Type 0
 In x c = has x c ≡ true
 
+-- b tells whether a set has no column
+pub record Emptiness (x : ℕ) (b : Bool) : Type 0 where
+  pub none : b ≡ true → (c : ℕ) → In x c → ⊥
+  pub some : b ≡ false → (c : ℕ) × In x c
+
 -- the row i is in the set s: bit i % 64 of word i / 64 is set
 unfoldable pub member : List ℕ → ℕ → Bool
 member s i = has (getD s (i / 64) 0) (i % 64)

@@ -3,7 +3,7 @@ ghost use mathlib.Core.Path.{_≡_};
 ghost use mathlib.Core.Bool.{true, not, _&&_, _||_};
 ghost use Prim.Native.Nat.{ℕ, _≤_, _<_};
 ghost use lib.Dec.{eqb};
-ghost use Rattle.matrix.specs.Sets.{has, In, Next};
+ghost use Rattle.matrix.specs.Sets.{Emptiness, has, In, Next};
 
 // Whether a set has the column c.
 pub fn has(set: u64, c: usize) -> bool
@@ -11,6 +11,13 @@ pub fn has(set: u64, c: usize) -> bool
     ensures { λ r. ⌜ r ≡ has set c ⌝ }
 {
     set >> c & 1 == 1
+}
+
+// Whether a set has no column.
+pub fn is_empty(set: u64) -> bool
+    ensures { λ r. ⌜ Emptiness set r ⌝ }
+{
+    set == 0
 }
 
 // The column c alone.

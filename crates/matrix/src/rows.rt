@@ -3,6 +3,7 @@ ghost use mathlib.Core.Path.{_≡_};
 ghost use mathlib.Core.Bool.{false, not, _&&_, _||_};
 ghost use Prim.Native.Nat.{ℕ, _≤_, _<_};
 ghost use lib.Dec.{eqb, ltb};
+ghost use Rattle.covering.specs.Cover.{count};
 ghost use Rattle.matrix.specs.Sets.{member, Next};
 use crate::columns;
 
@@ -57,6 +58,19 @@ pub fn either(a: [u64; 12], b: [u64; 12]) -> [u64; 12]
     set
 }
 
+// The rows of both sets.
+pub fn both(a: [u64; 12], b: [u64; 12]) -> [u64; 12]
+    ensures { λ r. ⌜ ((j : ℕ) → member r j ≡ (member a j && member b j)) ⌝ }
+{
+    let mut set = a;
+    let mut k: usize = 0;
+    while k < 12 {
+        set[k] = columns::both(set[k], b[k]);
+        k += 1;
+    }
+    set
+}
+
 // The rows below n.
 pub fn below(n: usize) -> [u64; 12]
     requires { ⌜ n ≤ 768 ⌝ }
@@ -91,4 +105,17 @@ pub fn next(set: &[u64; 12], from: usize, end: usize) -> usize
         i = (k + 1) * 64;
     }
     end
+}
+
+// How many rows a set has.
+pub fn size(set: &[u64; 12]) -> usize
+    ensures { λ r. ⌜ r ≡ count 768 (member (now (set .entry))) ⌝ }
+{
+    let mut n: usize = 0;
+    let mut i = next(set, 0, 768);
+    while i < 768 {
+        n += 1;
+        i = next(set, i + 1, 768);
+    }
+    n
 }

@@ -5,6 +5,7 @@ use mathlib.Core.Logic.{_⊎_, inl, inr, ⊎-elim}
 use mathlib.Core.Bool.{Bool, true, false, _&&_, _||_}
 use mathlib.Core.List.{List, [], _∷_, map}
 use Prim.Native.Nat.{ℕ, zero, suc, _+_, _*_, _^_, _<_, _≤_}
+use native.Mathlib.Nat.{not-suc-le-zero, le-of-suc-le-suc}
 use native.Mathlib.Omega.{arith}
 use lib.Dec.{T, ltb, leb, lt→ltb, le→leb, leb→le}
 use lib.ListN.{length, getD}
@@ -84,7 +85,7 @@ module _ (n : ℕ) (t words weights : List ℕ) (chart : ChartOf n t words weigh
       (λ x. implicant-at n t (cubeAt i) (prime-implicant n t (cubeAt i) (cube-at i (w .0) .1)) c l (subst T (row-of-matches n (cubeAt i) c (cube-at i (w .0) .0)) x) b)
       (list-clear L c (w .1) l b) (or-e (rowMatches (rowOf n (cubeAt i)) c) (coverMatches (listOf L) c) m)
 
-  list-weight : (L : List ℕ) → Within ChartRow L → weight (weightOf weights) L ≡ rowWeight * length (listOf L) + coverLiterals n (listOf L)
+  pub list-weight : (L : List ℕ) → Within ChartRow L → weight (weightOf weights) L ≡ rowWeight * length (listOf L) + coverLiterals n (listOf L)
   unfolding coverLiterals
   list-weight [] w = refl
   list-weight (i ∷ L) w = omega (arith, chart .weight i (w .0), row-of-literals n (cubeAt i) (cube-at i (w .0) .0), list-weight L (w .1))
@@ -133,6 +134,19 @@ module _ (n : ℕ) (t words weights : List ℕ) (chart : ChartOf n t words weigh
         hits = λ c l a m. ⊎-elim (λ x. inl (one .hits c l a x)) (λ x. inr (more .hits c l a x)) (or-e (rowMatches r c) (coverMatches rs c) m);
       }
 
+  -- a selection that covers a column has a row for it
+  hit-row : (L : List ℕ) (c : ℕ) → Within ChartRow L → Hits (covers words) L c → (i : ℕ) × ChartRow i × covers words i c
+  hit-row [] c w h = absurd h
+  hit-row (i ∷ L) c w (inl h) = (i, w .0, h)
+  hit-row (i ∷ L) c w (inr h) = hit-row L c (w .1) h
+
+  -- each wanted code has a row
+  pub coverable : (c : ℕ) → c < 2 ^ n → T (onSet t c) → (i : ℕ) × ChartRow i × covers words i c
+  coverable c l a =
+      let each = code-by-code n t in
+      let s = selected (each .list) (rows-sound n t (each .list) (each .right) (each .list) (λ d x. x) (each .is-formed)) in
+      hit-row (s .rows) c (s .within) (s .hits c l a (implements-on n t (each .list) (each .right) c l a))
+
   -- ---- the minimum selection's list is shortest
 
   module _ (small : n * 2 ^ n < rowWeight) (u k : ℕ) (columns : (c : ℕ) → In u c → (c < 2 ^ n) × T (onSet t c)) (wanted : (c : ℕ) → c < 2 ^ n → T (onSet t c) → In u c)
@@ -163,6 +177,13 @@ module _ (n : ℕ) (t words weights : List ℕ) (chart : ChartOf n t words weigh
       least = λ rs f g.
           weight-orders n (length (listOf L)) (coverLiterals n (listOf L)) (length rs) (coverLiterals n rs) small (no-lighter rs f g) few (literals-most n rs);
     }
+
+  -- ---- the cubes of a selection
+
+  pub cubes-below : (L : List ℕ) → Within ChartRow L → (i : ℕ) → i < length (map cubeAt L) → getD (map cubeAt L) i 0 < 3 ^ n
+  cubes-below [] w i l = absurd (not-suc-le-zero l)
+  cubes-below (j ∷ L) w zero l = cube-at j (w .0) .0
+  cubes-below (j ∷ L) w (suc i) l = cubes-below L (w .1) i (le-of-suc-le-suc l)
 
   -- ---- ascending rows have ascending cubes
 

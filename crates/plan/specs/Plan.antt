@@ -3,12 +3,15 @@
 use mathlib.Core.Path.{_≡_}
 use mathlib.Core.Bool.{Bool, true, _&&_, _||_}
 use mathlib.Core.List.{List, [], _∷_, map}
-use Prim.Native.Nat.{ℕ, suc, _+_, _^_, _<_}
+use Prim.Native.Nat.{ℕ, suc, _+_, _^_, _<_, _≤_}
 use lib.Dec.{T, leb}
 use lib.ListN.{length, take, getD}
 use Rattle.cube.specs.Words.{Cover, coverLiterals, cubeLiterals, rowOf, numberOf}
 use Rattle.cube.specs.Calls.{badWidth, badLength, badCell, short, when, firstOf, Answer, refuses, gives, answered, written}
 use Rattle.cube.specs.Minimum.{Minimum}
+use Rattle.chart.specs.Chart.{Cubes}
+use Rattle.search.specs.Search.{Coverable, MinimumCover}
+use Rattle.search.specs.declared.Answer.{Answer as Found}
 use Rattle.plan.specs.declared.Planned.{Planned}
 use Rattle.plan.specs.declared.Planned.the-variants as planned
 
@@ -74,14 +77,20 @@ rowWeight = 10000
 abbrev pub weightOfCube : ℕ → ℕ → ℕ
 weightOfCube n q = rowWeight + cubeLiterals n q
 
+-- a minimum cover of the columns by chart rows of these words and literals, where each column has a row
+pub record Lightest (words literals : List ℕ) (columns : ℕ) (a : Found) : Type 0 where
+  pub weights : List ℕ
+  pub weigh : (i : ℕ) → i < length words → getD weights i 0 ≡ rowWeight + getD literals i 0
+  pub minimum : Coverable words columns → MinimumCover words weights columns (a .weight) (a .picked)
+
 -- the rows of some cubes
 abbrev pub rowsOfCubes : ℕ → List ℕ → Cover
 rowsOfCubes n qs = map (rowOf n) qs
 
 -- the first count places hold the cubes of a shortest list, ascending, which has so many tested bits
 pub record Chosen (n : ℕ) (t cubes : List ℕ) (count bits : ℕ) : Type 0 where
-  pub within : count ≡ length (take count cubes)
-  pub below : (i : ℕ) → i < count → getD cubes i 0 < 3 ^ n
+  pub within : count ≤ length cubes
+  pub below : Cubes n cubes count
   pub minimum : Minimum n t (rowsOfCubes n (take count cubes))
   pub is-ascending : T (ascending (take count cubes))
   pub counts : bits ≡ coverLiterals n (rowsOfCubes n (take count cubes))

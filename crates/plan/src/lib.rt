@@ -1,11 +1,135 @@
-// Plan: from a table to the shortest list of rows.
+// Plan: a shortest list for a table. The chart's rows get the weight 10,000 + tested bits, a minimum cover is searched
+// for, and its cubes are spelled into the two arrays.
 //
-//     let mut values = [0u8; 16];
-//     let mut cares = [0u8; 16];
-//     plan::plan(4, &table, &mut values, &mut cares)      // Planned::Rows(rows, bits)
+//     let mut values = [0u8; 4];
+//     let mut cares = [0u8; 4];
+//     plan::plan(2, &[0, 1, 1, 1], &mut values, &mut cares)   // 2 rows, 2 bits: values 1 2, cares 1 2
+use matrix::rows;
+use search::Answer;
+ghost use mathlib.Core.Path.{_≡_};
+ghost use mathlib.Core.List.{map};
+ghost use Prim.Native.Nat.{ℕ, _+_, _*_, _<_, _≤_, _^_};
+ghost use lib.ListN.{length, take, getD};
+ghost use lib.Seq.{sets};
+ghost use Rattle.cube.specs.Below.{those};
+ghost use Rattle.cube.specs.Calls.{widest};
+ghost use Rattle.cube.specs.Words.{valueOf, careOf};
+ghost use Rattle.matrix.specs.Sets.{member};
+ghost use Rattle.chart.specs.Chart.{Cubes};
+ghost use Rattle.plan.specs.Plan.{planRefuses, Plans, rowWeight, Lightest, Chosen};
 
-// The number of rows and of tested bits of the list written, or the number of the refusal.
 pub enum Planned {
     Rows(usize, usize),
     Refused(u8),
+}
+
+// A shortest list: how many rows, their tested bits, and their cubes, ascending, in the first places.
+pub struct Selection {
+    pub count: usize,
+    pub bits: usize,
+    pub cubes: [u16; 64],
+}
+
+// The weights of the first rows by their tested bits.
+fn fill_weights(literals: &[u8], count: usize, weights: &mut [u32])
+    requires { ⌜ (count ≤ length (now literals)) × (count ≤ length (now weights)) ⌝ }
+    ensures { λ _. ⌜ ((i : ℕ) → i < count → getD (now (weights .exit)) i 0 ≡ rowWeight + getD (now (literals .entry)) i 0) ⌝ }
+{
+    let mut i = 0;
+    while i < count {
+        weights[i] = 10000 + literals[i] as u32;
+        i += 1;
+    }
+}
+
+// The cubes of the picked rows, ascending; how many there are.
+fn list_picked(picked: &[u64; 12], cubes: &[u16], rows: usize, list: &mut [u16]) -> usize
+    requires { ⌜ (rows ≤ 768) × (rows ≤ length (now cubes)) × (length (those rows (member (now picked))) ≤ length (now list)) ⌝ }
+    ensures { λ r. ⌜ (r ≡ length (those rows (member (now (picked .entry))))) × (now (list .exit) ≡ sets (now (list .entry)) 0 (map (λ (i : ℕ). getD (now (cubes .entry)) i 0) (those rows (member (now (picked .entry)))))) ⌝ }
+{
+    let mut count = 0;
+    let mut i = 0;
+    while i < rows {
+        if rows::has(picked, i) {
+            list[count] = cubes[i];
+            count += 1;
+        }
+        i += 1;
+    }
+    count
+}
+
+// The values and the cares of the first cubes, from the first place on.
+fn write_rows(n: usize, cubes: &[u16], count: usize, values: &mut [u8], cares: &mut [u8])
+    requires { ⌜ (n ≤ widest) × (count ≤ length (now cubes)) × (count ≤ length (now values)) × (count ≤ length (now cares)) × Cubes n (now cubes) count ⌝ }
+    ensures { λ _. ⌜ (now (values .exit) ≡ sets (now (values .entry)) 0 (map (valueOf n) (take count (now (cubes .entry))))) × (now (cares .exit) ≡ sets (now (cares .entry)) 0 (map (careOf n) (take count (now (cubes .entry))))) ⌝ }
+{
+    let mut i = 0;
+    while i < count {
+        let q = cubes[i] as usize;
+        values[i] = spelling::value(n, q);
+        cares[i] = spelling::care(n, q);
+        i += 1;
+    }
+}
+
+// The lightest selection of the first rows that covers the columns.
+fn lightest<'a>(words: &'a [u64], literals: &'a [u8], rows: usize, columns: u64) -> Answer
+    requires { ⌜ (rows ≤ 729) × (rows ≤ length (now words)) × (rows ≤ length (now literals)) ⌝ }
+    ensures { λ r. ⌜ Lightest (take rows (now (words .entry))) (now (literals .entry)) columns r ⌝ }
+{
+    let mut weights = [0u32; 729];
+    fill_weights(literals, rows, &mut weights);
+    search::minimum_cover(&words[..rows], &weights[..rows], columns)
+}
+
+// A shortest list for a table of n variables.
+pub fn shortest(n: usize, table: &[u8]) -> Selection
+    requires { ⌜ (n ≤ widest) × (length (now table) ≡ 2 ^ n) ⌝ }
+    ensures { λ r. ⌜ Chosen n (now (table .entry)) (r .cubes) (r .count) (r .bits) ⌝ }
+{
+    let chart = chart::build(n, table);
+    let found = lightest(
+        &chart.words,
+        &chart.literals,
+        chart.rows,
+        chart::row_columns(table, 0, 0),
+    );
+    let mut cubes = [0u16; 64];
+    let count = list_picked(&found.picked, &chart.cubes, chart.rows, &mut cubes);
+    Selection {
+        count,
+        bits: found.weight as usize - 10000 * count,
+        cubes,
+    }
+}
+
+// What Plan refuses: 1, 2, 3, 4, or 0 where none of these holds.
+fn plan_refusal(n: usize, table: &[u8], values: usize, cares: usize) -> u8
+    ensures { λ r. ⌜ r ≡ planRefuses n (now (table .entry)) values cares ⌝ }
+{
+    let k = primes::table_refusal(n, table);
+    if k != 0 {
+        return k;
+    }
+    let places = spelling::codes(n);
+    if values < places {
+        return 4;
+    }
+    if cares < places {
+        return 4;
+    }
+    0
+}
+
+pub fn plan(n: usize, table: &[u8], values: &mut [u8], cares: &mut [u8]) -> Planned
+    ensures { λ r. ⌜ Plans n (now (table .entry)) (now (values .entry)) (now (cares .entry)) (now (values .exit)) (now (cares .exit)) r ⌝ }
+{
+    let k = plan_refusal(n, table, values.len(), cares.len());
+    if k != 0 {
+        return Planned::Refused(k);
+    }
+    let list = shortest(n, table);
+    write_rows(n, &list.cubes, list.count, values, cares);
+    Planned::Rows(list.count, list.bits)
 }

@@ -1,5 +1,7 @@
 -- `matrix::rows::either` meets its contract. The invariant: the words before k are joined, and the others are still those of the first set. Assumes nothing.
 use borrow.Author.Needs.{needs}
+use mathlib.Core.Path.{refl}
+use mathlib.Core.Bool.{_||_}
 use Prim.Native.Nat.{_≤_, _-_}
 use native.Mathlib.Omega.{arith}
 use Rattle.matrix.proofs.Members.{Joined, joined-none, joined-more, joined-all}
@@ -7,13 +9,13 @@ use Rattle.matrix.proofs.rows.either.Statement.{statement}
 use Rattle.matrix.proofs.rows.either.Tie as tie
 
 abbrev Inv-loop : tie.InvT-loop
-Inv-loop b set₀ k₀ set k = (k ≤ 12) × Joined set₀ b set k
+Inv-loop b set₀ k₀ set k = Joined _||_ set₀ b set k
 
 abbrev μ-loop : tie.MeasureT-loop
 μ-loop b set₀ k₀ set k = 12 - k
 
 loop-holds : tie.Need-loop-holds Inv-loop μ-loop
-loop-holds c = (omega arith, joined-none (c .args .a) (c .args .t2) (omega arith))
+loop-holds c = joined-none _ _ _ (omega arith)
 
 mul-either : tie.Need-mul-either Inv-loop μ-loop
 mul-either c = search needs
@@ -43,10 +45,10 @@ loop-less : tie.Need-loop-less Inv-loop μ-loop
 loop-less c = search needs
 
 loop-again : tie.Need-loop-again Inv-loop μ-loop
-loop-again c = (search needs, joined-more _ _ _ _ _ (c .before .loop-test .taken) (c .before .before .loop .inv .1) (c .either .ensures))
+loop-again c = joined-more _ _ _ _ _ _ (c .before .loop-test .taken) (c .before .before .loop .inv) (c .either .ensures)
 
 returns : tie.Need-returns Inv-loop μ-loop
-returns c = joined-all (c .before .before .args .a) (c .before .before .args .t2) _ _ (omega arith) (c .loop-test .left) (c .before .loop .inv .1) (c .before .loop .inv .0)
+returns c = joined-all _||_ _ _ refl (omega (arith, c .before .before .good .0 .1 .0 .1)) (omega arith) _ _ (c .before .loop .inv) (c .loop-test .left)
 
 pub either-spec : {M : Type 1} → statement M
 either-spec =

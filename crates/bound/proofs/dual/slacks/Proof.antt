@@ -1,0 +1,83 @@
+-- `bound::dual::slacks` is safe and ends: the row moves on. Assumes nothing.
+use borrow.Author.Needs.{needs}
+use Prim.Native.Nat.{_≤_, _-_}
+use lib.ListN.{length}
+use Rattle.bound.proofs.dual.slacks.Statement.{statement}
+use Rattle.bound.proofs.dual.slacks.Tie as tie
+
+abbrev Inv-loop : tie.InvT-loop
+Inv-loop words weights live undecided prices slack₀ i₀ slack i = i ≤ length words
+
+abbrev μ-loop : tie.MeasureT-loop
+μ-loop words weights live undecided prices slack₀ i₀ slack i = length words - i
+
+next-requires : tie.Need-next-requires Inv-loop μ-loop
+next-requires c κs = search needs
+
+loop-holds : tie.Need-loop-holds Inv-loop μ-loop
+loop-holds c = search needs
+
+mul-both : tie.Need-mul-both Inv-loop μ-loop
+mul-both c = search needs
+
+shared-slice-read-both : tie.Need-shared-slice-read-both Inv-loop μ-loop
+shared-slice-read-both c = search needs
+
+both-requires : tie.Need-both-requires Inv-loop μ-loop
+both-requires c κs = search needs
+
+value-requires : tie.Need-value-requires Inv-loop μ-loop
+value-requires c κs = search needs
+
+mul-room : tie.Need-mul-room Inv-loop μ-loop
+mul-room c = search needs
+
+shared-slice-read-room : tie.Need-shared-slice-read-room Inv-loop μ-loop
+shared-slice-read-room c = search needs
+
+room-requires : tie.Need-room-requires Inv-loop μ-loop
+room-requires c κs = search needs
+
+mul-slack : tie.Need-mul-slack Inv-loop μ-loop
+mul-slack c = search needs
+
+array-write-slack : tie.Need-array-write-slack Inv-loop μ-loop
+array-write-slack c = search needs
+
+add-next : tie.Need-add-next Inv-loop μ-loop
+add-next c = search needs
+
+next-requires-2 : tie.Need-next-requires-2 Inv-loop μ-loop
+next-requires-2 c κs = search needs
+
+loop-less : tie.Need-loop-less Inv-loop μ-loop
+loop-less c = search needs
+
+loop-again : tie.Need-loop-again Inv-loop μ-loop
+loop-again c = search needs
+
+returns : tie.Need-returns Inv-loop μ-loop
+returns c = search needs
+
+pub slacks-spec : {M : Type 1} → statement M
+slacks-spec =
+    tie.close
+    (tie.spec
+    Inv-loop
+    μ-loop
+    next-requires
+    loop-holds
+    mul-both
+    shared-slice-read-both
+    both-requires
+    value-requires
+    mul-room
+    shared-slice-read-room
+    room-requires
+    mul-slack
+    array-write-slack
+    add-next
+    next-requires-2
+    loop-less
+    loop-again
+    returns)

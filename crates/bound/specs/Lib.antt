@@ -1,0 +1,2 @@
+-- What prices for the columns show.
+pub mod Bound

@@ -1,0 +1,33 @@
+-- The totals of a shortest list are small: at most 64 rows, and six tested bits for each. Assumes nothing.
+use mathlib.Core.List.{List}
+use Prim.Native.Nat.{ℕ}
+use native.Mathlib.Nat.{mul-le-mul-right}
+use native.Mathlib.Omega.{arith}
+use lib.ListN.{length}
+use Rattle.cube.proofs.Calls.{codes-most}
+use Rattle.cube.proofs.Covers.{literals-most}
+use Rattle.cube.proofs.Minimum.{minimum-rows}
+use Rattle.plan.specs.Plan.{Plans}
+use Rattle.plan.specs.declared.Planned.{Planned}
+use Rattle.plan.specs.declared.Planned.the-variants.{Rows, Refused}
+use Rattle.plan.proofs.Refusals.{plannable}
+use Rattle.plan.proofs.Answers.{not-refused, rows-is, bits-is}
+use Rattle.installer.specs.Numbers.{FewTotals}
+
+pub few-totals : (n : ℕ) (t values cares values′ cares′ : List ℕ) (r : Planned) → Plans n t values cares values′ cares′ r → FewTotals r
+few-totals n t values cares values′ cares′ (Refused k) p = tt
+few-totals n t values cares values′ cares′ (Rows rows bits) p =
+    let accepted = not-refused n t values cares values′ cares′ rows bits p in
+    let width = plannable n t (length values) (length cares) accepted .table .to in
+    let rows-are = rows-is n t values cares values′ cares′ rows bits p in
+    let most = minimum-rows n t (p .list) (p .minimum accepted) in (
+      omega (arith, rows-are, most, codes-most n width),
+      omega (
+        arith,
+        most,
+        codes-most n width,
+        bits-is n t values cares values′ cares′ rows bits p,
+        literals-most n (p .list),
+        mul-le-mul-right (length (p .list)) width,
+      ),
+    )

@@ -1,0 +1,44 @@
+-- `installer::plan_number` meets its contract, case by case. Assumes nothing.
+use mathlib.Core.Path.{sym, ap, _∙_, subst}
+use Prim.Native.Nat.{_≤_}
+use native.Mathlib.Omega.{arith}
+use borrow.Author.Needs.{needs}
+use Rattle.plan.specs.Plan.{planAnswer}
+use Rattle.plan.specs.declared.Planned.{Planned}
+use Rattle.installer.specs.Numbers.{planNumber, FewTotals}
+use Rattle.installer.proofs.Signed.{small-is, returned}
+use Rattle.installer.proofs.plan_number.Statement.{statement}
+use Rattle.installer.proofs.plan_number.Tie as tie
+
+enum-known-answer : tie.Need-enum-known-answer
+enum-known-answer c = search needs
+
+-- the totals at hand are small
+few : (c : tie.After-answer) → (c .answer .given .0 .0 ≤ 64) × (c .answer .given .0 .1 .0 ≤ 384)
+few c = subst FewTotals (c .answer .given .1) (c .before .before .pre)
+
+mul-result : tie.Need-mul-result
+mul-result c = omega (arith, few (c .before) .0)
+
+add-result : tie.Need-add-result
+add-result c = omega (arith, few (c .before) .0, few (c .before) .1)
+
+cast-result : tie.Need-cast-result
+cast-result c = record { sfits = omega (arith, few (c .before) .0, few (c .before) .1) }
+
+enum-known-answer-2 : tie.Need-enum-known-answer-2
+enum-known-answer-2 c = search needs
+
+refusal-requires : tie.Need-refusal-requires
+refusal-requires c κs = search needs
+
+returns : tie.Need-returns
+returns c =
+    small-is _ (omega (arith, few (c .before) .0, few (c .before) .1)) ∙ ap (λ (a : Planned). planNumber (planAnswer a)) (sym (c .before .answer .given .1))
+
+returns-2 : tie.Need-returns-2
+returns-2 c =
+    returned (c .refusal .result) (c .refusal .ok) ∙ c .refusal .ensures ∙ ap (λ (a : Planned). planNumber (planAnswer a)) (sym (c .before .before .answer2 .given .1))
+
+pub plan-number-spec : {M : Type 1} → statement M
+plan-number-spec = tie.close (tie.spec enum-known-answer mul-result add-result cast-result enum-known-answer-2 refusal-requires returns returns-2)

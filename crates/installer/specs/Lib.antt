@@ -1,0 +1,2 @@
+-- The numbers that C gets.
+pub mod Numbers

@@ -1,0 +1,38 @@
+-- "For the installer, which is in C: [..] Plan's C answer is 10,000 × rows + tested bits; Check's is 0 right, 1 + code missed, 257 + code stray; both
+-- answer minus the number when they refuse." Assumes nothing.
+use mathlib.Core.Path.{_≡_}
+use mathlib.Core.List.{List}
+use Prim.Native.Nat.{ℕ, _+_, _*_, _≤_}
+use lib.IntN.{ℤ, pos, negℤ}
+use Rattle.cube.specs.Calls.{Answer, refuses, gives}
+use Rattle.plan.specs.Plan.{Totals, planAnswer, Plans}
+use Rattle.plan.specs.declared.Planned.{Planned}
+use Rattle.plan.specs.declared.Planned.the-variants as planned
+use Rattle.checking.specs.Check.{Verdict, right, missed, stray}
+
+-- "minus the number"
+abbrev pub minus : ℕ → ℤ
+minus k = negℤ (pos k)
+
+-- "10,000 × rows + tested bits"
+abbrev pub planNumber : Answer Totals → ℤ
+planNumber (gives a) = pos (10000 * a .rows + a .bits)
+planNumber (refuses k) = minus k
+
+-- "0 right, 1 + code missed, 257 + code stray"
+abbrev pub checkNumber : Answer Verdict → ℤ
+checkNumber (gives right) = pos 0
+checkNumber (gives (missed c)) = pos (1 + c)
+checkNumber (gives (stray c)) = pos (257 + c)
+checkNumber (refuses k) = minus k
+
+-- What rows_plan promises: Plan's promise, of an answer whose number is returned.
+pub record PlansForC (n : ℕ) (t values cares values′ cares′ : List ℕ) (r : ℤ) : Type 0 where
+  pub planned : Planned
+  pub plans : Plans n t values cares values′ cares′ planned
+  pub number : r ≡ planNumber (planAnswer planned)
+
+-- totals whose number is far below 2^31
+abbrev pub FewTotals : Planned → Type 0
+FewTotals (planned.Rows r b) = (r ≤ 64) × (b ≤ 384)
+FewTotals (planned.Refused k) = Unit

@@ -1,0 +1,187 @@
+-- The chosen list: the cubes of the picked rows are those of a shortest list, and its counts are read off the weight. Assumes nothing.
+use mathlib.Core.Path.{_≡_, refl, sym, ap, ap₂, _∙_, subst, subst⁻¹}
+use mathlib.Core.Logic.{_⊎_, inl, inr}
+use mathlib.Core.Bool.{Bool, true, false, _&&_, cond}
+use mathlib.Core.List.{List, [], _∷_, _++_, map}
+use Prim.Native.Nat.{ℕ, zero, suc, _+_, _*_, _-_, _^_, _<_, _≤_}
+use native.Mathlib.Nat.{mul-le-mul-left}
+use native.Mathlib.Omega.{arith}
+use lib.Bits.{and-zero-r}
+use lib.Dec.{T, eqb, leb, le→leb, ltb, ltb→lt, lt→ltb}
+use lib.ListN.{length, length-map, take, drop, getD}
+use lib.Seq.{sets, length-sets, getD-take, take-append-seam}
+use borrow.Table.Elements.{length-take-le}
+use Rattle.cube.specs.Below.{those}
+use Rattle.cube.specs.Words.{onSet, Cover, rowMatches, coverLiterals, rowOf, prime, primesOf}
+use Rattle.cube.specs.Calls.{widest}
+use Rattle.cube.specs.Minimum as lists
+use Rattle.cube.proofs.Bools.{and-l, and-r, and-i, is-true, holds}
+use Rattle.cube.proofs.Below.{those-length, those-ascend}
+use Rattle.cube.proofs.Calls.{codes-most, cubes-most}
+use Rattle.cube.proofs.Lent.{sets-front}
+use Rattle.cube.proofs.Minimum.{minimum-rows}
+use Rattle.covering.specs.Cover.{Within, Minimum, rowsOf}
+use Rattle.matrix.specs.Sets.{has, In, member}
+use Rattle.matrix.specs.Matrix.{covers, weightOf}
+use Rattle.chart.specs.Columns.{wordOf, rowColumn}
+use Rattle.chart.specs.Chart.{IsChart}
+use Rattle.chart.specs.declared.Arrays.{Arrays}
+use Rattle.chart.proofs.Words.{has-word}
+use Rattle.plan.specs.Plan.{rowWeight, rowsOfCubes, Lightest, ascendsFrom, ascending, Chosen}
+use Rattle.search.specs.Search.{Coverable}
+use Rattle.search.specs.declared.Answer.{Answer}
+use Rattle.plan.proofs.Selections.{ChartOf, ChartRow, cubeAt, listOf, list-weight, minimum-list, coverable, cubes-below, ascending-list}
+
+-- the selection of a set of rows is the list of those in the set
+rows-those : (m : ℕ) (p : ℕ → Bool) → rowsOf m p ≡ those m p
+unfolding rowsOf those
+rows-those zero p = refl
+rows-those (suc m) p = ap (λ (l : List ℕ). l ++ cond (p m) (m ∷ []) []) (rows-those m p)
+
+-- a row that tests nothing matches every code, so its columns are the wanted codes
+module _ (n : ℕ) (t : List ℕ) (cells : length t ≡ 2 ^ n) where
+  abbrev pub wantedWord : ℕ
+  wantedWord = wordOf (length t) (rowColumn t 0 0)
+
+  matches-all : (c : ℕ) → T (rowMatches (record { value = 0; care = 0 }) c)
+  unfolding rowMatches
+  matches-all c = subst⁻¹ (λ (i : ℕ). T (eqb i 0)) (and-zero-r c) tt
+
+  wanted-is : (c : ℕ) → has wantedWord c ≡ (ltb c (length t) && rowColumn t 0 0 c)
+  wanted-is c = has-word (length t) (rowColumn t 0 0) c
+
+  wanted-columns : (c : ℕ) → In wantedWord c → (c < 2 ^ n) × T (onSet t c)
+  wanted-columns c h =
+      let b = holds (ltb c (length t) && rowColumn t 0 0 c) (sym (wanted-is c) ∙ h) in (
+        subst (λ (i : ℕ). c < i) cells (ltb→lt c (length t) (and-l (ltb c (length t)) (rowColumn t 0 0 c) b)),
+        and-l (onSet t c) (rowMatches (record { value = 0; care = 0 }) c) (and-r (ltb c (length t)) (rowColumn t 0 0 c) b),
+      )
+
+  columns-wanted : (c : ℕ) → c < 2 ^ n → T (onSet t c) → In wantedWord c
+  columns-wanted c l a =
+      wanted-is c
+      ∙ is-true (ltb c (length t) && rowColumn t 0 0 c)
+      (and-i (ltb c (length t)) (rowColumn t 0 0 c) (lt→ltb c (length t) (subst⁻¹ (λ (i : ℕ). c < i) cells l))
+      (and-i (onSet t c) (rowMatches (record { value = 0; care = 0 }) c) a (matches-all c)))
+
+map-same : (A : ℕ → Type 0) (f g : ℕ → ℕ) → ((i : ℕ) → A i → f i ≡ g i) → (L : List ℕ) → Within A L → map f L ≡ map g L
+map-same A f g e [] w = refl
+map-same A f g e (i ∷ L) w = ap₂ (λ (x : ℕ) (xs : List ℕ). x ∷ xs) (e i (w .0)) (map-same A f g e L (w .1))
+
+-- those that pass ascend
+ascends-by : (b : ℕ) (xs : List ℕ) → ((i : ℕ) → i < length xs → b ≤ getD xs i 0) → ((i j : ℕ) → i < j → j < length xs → getD xs i 0 < getD xs j 0) → T (ascendsFrom b xs)
+unfolding ascendsFrom
+ascends-by b [] l a = tt
+ascends-by b (x ∷ xs) l a =
+    and-i (leb b x) (ascendsFrom (suc x) xs) (le→leb b x (l 0 (omega arith)))
+    (ascends-by (suc x) xs (λ i k. a 0 (suc i) (omega arith) (omega arith)) (λ i j h k. a (suc i) (suc j) (omega arith) (omega arith)))
+
+those-ascending : (m : ℕ) (p : ℕ → Bool) → T (ascending (those m p))
+those-ascending m p = ascends-by 0 (those m p) (λ i l. omega arith) (those-ascend p m)
+
+-- the rows of a chart are at most all cubes
+pub rows-most : (n : ℕ) (t : List ℕ) → n ≤ widest → (a : Arrays) → IsChart n t a → a .rows ≤ 729
+unfolding primesOf
+rows-most n t w a chart = omega (arith, chart .rows, those-length (prime n t) (3 ^ n), cubes-most n w)
+
+small-lists : (n : ℕ) → n ≤ widest → n * 2 ^ n < rowWeight
+small-lists n w = omega (arith, mul-le-mul-left n (codes-most n w))
+
+module _ (n : ℕ) (t : List ℕ) (width : n ≤ widest) (cells : length t ≡ 2 ^ n) (a : Arrays) (chart : IsChart n t a) (u : ℕ) (u-is : u ≡ wantedWord n t cells) (found : Answer)
+    (light : Lightest (take (a .rows) (a .words)) (a .literals) u found) where
+  words : List ℕ
+  words = take (a .rows) (a .words)
+
+  words-long : length words ≡ a .rows
+  unfolding words
+  words-long = length-take-le (a .rows) (a .words) (chart .places .1)
+
+  is-row : (i : ℕ) → i < length (primesOf n t) → i < a .rows
+  is-row i l = subst⁻¹ (λ (k : ℕ). i < k) (chart .rows) l
+
+  of-chart : ChartOf n t words (light .weights)
+  unfolding words
+  of-chart = record {
+    word = λ i l. getD-take (a .rows) (a .words) i 0 (is-row i l) ∙ chart .words i (is-row i l);
+    weight = λ i l. light .weigh i (subst⁻¹ (λ (k : ℕ). i < k) words-long (is-row i l)) ∙ ap (λ (x : ℕ). rowWeight + x) (chart .literals i (is-row i l));
+  }
+
+  each-column : Coverable words (wantedWord n t cells)
+  unfolding words
+  each-column c h =
+      let d = wanted-columns n t cells c h in
+      let r = coverable n t words (light .weights) of-chart c (d .0) (d .1) in
+      (r .0, subst⁻¹ (λ (k : ℕ). r .0 < k) words-long (is-row (r .0) (r .1)), r .2)
+
+  L : List ℕ
+  L = those (a .rows) (member (found .picked))
+
+  minimum-selection : Minimum (covers words) (weightOf (light .weights)) (λ i. i < length (primesOf n t)) (In u) L (found .weight)
+  unfolding words L
+  minimum-selection =
+      subst (λ (k : ℕ). Minimum (covers words) (weightOf (light .weights)) (λ i. i < k) (In u) L (found .weight)) (chart .rows)
+      (subst (λ (l : List ℕ). Minimum (covers words) (weightOf (light .weights)) (λ i. i < a .rows) (In u) l (found .weight)) (rows-those (a .rows) (member (found .picked)))
+      (subst (λ (k : ℕ). Minimum (covers words) (weightOf (light .weights)) (λ i. i < k) (In u) (rowsOf k (member (found .picked))) (found .weight)) words-long (light .minimum (subst⁻¹ (Coverable words) u-is each-column))))
+
+  list : Cover
+  list = listOf n t words (light .weights) of-chart L
+
+  list-minimum : lists.Minimum n t list
+  unfolding list
+  list-minimum =
+      minimum-list n t words (light .weights) of-chart (small-lists n width) u (found .weight) (λ c h. wanted-columns n t cells c (subst (λ (x : ℕ). In x c) u-is h))
+      (λ c l h. subst⁻¹ (λ (x : ℕ). In x c) u-is (columns-wanted n t cells c l h)) L minimum-selection
+
+  count-is : length list ≡ length (those (a .rows) (member (found .picked)))
+  unfolding list L
+  count-is = length-map (map (cubeAt n t words (light .weights) of-chart) L) (rowOf n) ∙ length-map L (cubeAt n t words (light .weights) of-chart)
+
+  -- the picked rows are no more than the places of a list
+  pub picked-most : length (those (a .rows) (member (found .picked))) ≤ 64
+  picked-most = omega (arith, count-is, minimum-rows n t list list-minimum, codes-most n width)
+
+  weight-is : found .weight ≡ rowWeight * length list + coverLiterals n list
+  unfolding list
+  weight-is = sym (minimum-selection .weighs) ∙ list-weight n t words (light .weights) of-chart L (minimum-selection .within)
+
+  pub weight-most : rowWeight * length (those (a .rows) (member (found .picked))) ≤ found .weight
+  weight-most = omega (arith, count-is, weight-is)
+
+  module _ (old cubes : List ℕ) (count : ℕ) (long : length old ≡ 64) (count-has : count ≡ length (those (a .rows) (member (found .picked))))
+      (cubes-are : cubes ≡ sets old 0 (map (λ (i : ℕ). getD (a .cubes) i 0) (those (a .rows) (member (found .picked))))) where
+    xs : List ℕ
+    xs = map (λ (i : ℕ). getD (a .cubes) i 0) (those (a .rows) (member (found .picked)))
+
+    xs-long : length xs ≡ count
+    unfolding xs
+    xs-long = length-map (those (a .rows) (member (found .picked))) (λ (i : ℕ). getD (a .cubes) i 0) ∙ sym count-has
+
+    xs-are : xs ≡ map (cubeAt n t words (light .weights) of-chart) L
+    unfolding xs L
+    xs-are =
+        map-same (λ i. i < length (primesOf n t)) (λ (i : ℕ). getD (a .cubes) i 0) (cubeAt n t words (light .weights) of-chart) (λ i l. chart .cubes i (is-row i l))
+        (those (a .rows) (member (found .picked))) (minimum-selection .within)
+
+    front : take count cubes ≡ xs
+    unfolding xs
+    front =
+        ap (take count) (cubes-are ∙ sets-front xs old (omega (arith, xs-long, picked-most))) ∙ ap (λ (k : ℕ). take k (xs ++ drop (length xs) old)) (sym xs-long)
+        ∙ take-append-seam xs (drop (length xs) old)
+
+    cubes-front : take count cubes ≡ map (cubeAt n t words (light .weights) of-chart) L
+    cubes-front = front ∙ xs-are
+
+    pub chosen : Chosen n t cubes count (found .weight - rowWeight * count)
+    unfolding list L xs
+    chosen = record {
+      within = omega (arith, ap length cubes-are ∙ length-sets old 0 xs, long, picked-most, count-has);
+      below = λ i l.
+          subst (λ (q : ℕ). q < 3 ^ n) (getD-take count cubes i 0 l)
+          (subst⁻¹ (λ (qs : List ℕ). getD qs i 0 < 3 ^ n) cubes-front
+          (cubes-below n t words (light .weights) of-chart L (minimum-selection .within) i (omega (arith, xs-long, ap length xs-are))));
+      minimum = subst⁻¹ (λ (qs : List ℕ). lists.Minimum n t (rowsOfCubes n qs)) cubes-front list-minimum;
+      is-ascending =
+          subst⁻¹ (λ (qs : List ℕ). T (ascending qs)) cubes-front
+          (ascending-list n t words (light .weights) of-chart L (those-ascending (a .rows) (member (found .picked))) (minimum-selection .within));
+      counts = subst⁻¹ (λ (qs : List ℕ). found .weight - rowWeight * count ≡ coverLiterals n (rowsOfCubes n qs)) cubes-front (omega (arith, weight-is, count-is, count-has));
+    }

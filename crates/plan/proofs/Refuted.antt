@@ -1,0 +1,85 @@
+-- What Plan's promise leaves open of the counts: nothing. On each of the cases a to j the answer is the case's rows and bits, whatever the arrays held,
+-- and so wrong answers are shut out, each on a named case. Assumes nothing.
+use mathlib.Core.Path.{_≡_, refl, ap, ap₂, _∙_}
+use mathlib.Core.List.{List, [], _∷_}
+use Prim.Native.Nat.{ℕ, zero, suc}
+use native.Mathlib.Omega.{arith}
+use lib.ListN.{length}
+use Rattle.cube.specs.Below.{some, run}
+use Rattle.cube.specs.Words.{coverLiterals}
+use Rattle.cube.specs.Calls.{badCell, Answer, gives, refuses, answered}
+use Rattle.cube.specs.Cases.{Case, tableOf, Holds, case-b, case-e, case-f, case-g, case-j, cases}
+use Rattle.cube.proofs.Cases.{all-cases}
+use Rattle.cube.proofs.Minimum.{shortest}
+use Rattle.plan.specs.Plan.{planRefuses, Totals, totalsOf, planAnswer, Plans}
+use Rattle.plan.specs.declared.Planned.{Planned}
+use Rattle.plan.specs.declared.Planned.the-variants.{Rows, Refused}
+use Rattle.plan.proofs.Answers.{accepted-refused}
+
+abbrev rowsIn : Answer Totals → ℕ
+rowsIn (gives a) = a .rows
+rowsIn (refuses k) = 0
+
+abbrev bitsIn : Answer Totals → ℕ
+bitsIn (gives a) = a .bits
+bitsIn (refuses k) = 0
+
+-- the answer on a case that is not refused
+pub answer-on : (k : Case) → Holds k → (values cares values′ cares′ : List ℕ) (r : Planned) → planRefuses (k .width) (tableOf k) (length values) (length cares) ≡ 0
+    → Plans (k .width) (tableOf k) values cares values′ cares′ r → planAnswer r ≡ gives (record { rows = k .rows; bits = k .bits })
+answer-on k h values cares values′ cares′ r e p =
+    let same = shortest (k .width) (tableOf k) .counts (p .list) (h .list) (p .minimum e) (h .minimum) in
+    p .answer ∙ ap (λ (i : ℕ). answered i (totalsOf (k .width) (p .list))) e
+    ∙ ap₂ (λ (x y : ℕ). gives (record { rows = x; bits = y })) (same .0 ∙ h .rows) (same .1 ∙ h .bits)
+
+-- ---- wrong answers on named cases, for any arrays with places enough
+
+module _ (k : Case) (h : Holds k) (values cares values′ cares′ : List ℕ) (e : planRefuses (k .width) (tableOf k) (length values) (length cares) ≡ 0) where
+  other-rows : (rows bits : ℕ) → (rows ≡ k .rows → ⊥) → Plans (k .width) (tableOf k) values cares values′ cares′ (Rows rows bits) → ⊥
+  other-rows rows bits d p = d (ap rowsIn (answer-on k h values cares values′ cares′ (Rows rows bits) e p))
+
+  other-bits : (rows bits : ℕ) → (bits ≡ k .bits → ⊥) → Plans (k .width) (tableOf k) values cares values′ cares′ (Rows rows bits) → ⊥
+  other-bits rows bits d p = d (ap bitsIn (answer-on k h values cares values′ cares′ (Rows rows bits) e p))
+
+module _ (values cares values′ cares′ : List ℕ) where
+  -- all eight primes on j
+  pub all-primes : planRefuses 4 (tableOf case-j) (length values) (length cares) ≡ 0 → (bits : ℕ) → Plans 4 (tableOf case-j) values cares values′ cares′ (Rows 8 bits) → ⊥
+  unfolding cases
+  all-primes e bits = other-rows case-j (all-cases .1 .1 .1 .1 .1 .1 .1 .1 .1 .0) values cares values′ cares′ e 8 bits (λ z. omega arith)
+
+  -- a row taken first that leads to five rows, on j
+  pub longest-first : planRefuses 4 (tableOf case-j) (length values) (length cares) ≡ 0 → (bits : ℕ) → Plans 4 (tableOf case-j) values cares values′ cares′ (Rows 5 bits) → ⊥
+  unfolding cases
+  longest-first e bits = other-rows case-j (all-cases .1 .1 .1 .1 .1 .1 .1 .1 .1 .0) values cares values′ cares′ e 5 bits (λ z. omega arith)
+
+  -- the three essentials of g, and then all others
+  pub then-all-others : planRefuses 4 (tableOf case-g) (length values) (length cares) ≡ 0 → (bits : ℕ) → Plans 4 (tableOf case-g) values cares values′ cares′ (Rows 6 bits) → ⊥
+  unfolding cases
+  then-all-others e bits = other-rows case-g (all-cases .1 .1 .1 .1 .1 .1 .0) values cares values′ cares′ e 6 bits (λ z. omega arith)
+
+  -- nothing written and zero rows, on b
+  pub no-rows : planRefuses 1 (tableOf case-b) (length values) (length cares) ≡ 0 → (bits : ℕ) → Plans 1 (tableOf case-b) values cares values′ cares′ (Rows 0 bits) → ⊥
+  unfolding cases
+  no-rows e bits = other-rows case-b (all-cases .1 .0) values cares values′ cares′ e 0 bits (λ z. omega arith)
+
+  -- fewest rows, and then not fewest bits: the list of f with 12
+  pub twelve-bits : planRefuses 4 (tableOf case-f) (length values) (length cares) ≡ 0 → Plans 4 (tableOf case-f) values cares values′ cares′ (Rows 4 12) → ⊥
+  unfolding cases
+  twelve-bits e = other-bits case-f (all-cases .1 .1 .1 .1 .1 .0) values cares values′ cares′ e 4 12 (λ z. omega arith)
+
+  -- totals one off, on e
+  pub one-row-off : planRefuses 3 (tableOf case-e) (length values) (length cares) ≡ 0 → (bits : ℕ) → Plans 3 (tableOf case-e) values cares values′ cares′ (Rows 4 bits) → ⊥
+  unfolding cases
+  one-row-off e bits = other-rows case-e (all-cases .1 .1 .1 .1 .0) values cares values′ cares′ e 4 bits (λ z. omega arith)
+
+  pub one-bit-off : planRefuses 3 (tableOf case-e) (length values) (length cares) ≡ 0 → Plans 3 (tableOf case-e) values cares values′ cares′ (Rows 3 7) → ⊥
+  unfolding cases
+  one-bit-off e = other-bits case-e (all-cases .1 .1 .1 .1 .0) values cares values′ cares′ e 3 7 (λ z. omega arith)
+
+-- 4 with 64 places in each array, at width 6 with nothing wanted
+pub four-with-64-places : (values cares values′ cares′ : List ℕ) → length values ≡ 64 → length cares ≡ 64
+    → Plans 6 (run 64 0 (λ c. 0)) values cares values′ cares′ (Refused 4) → ⊥
+unfolding run some badCell
+four-with-64-places values cares values′ cares′ v w p =
+    let enough : planRefuses 6 (run 64 0 (λ c. 0)) 64 64 ≡ 0 = refl in
+    accepted-refused 6 (run 64 0 (λ c. 0)) values cares values′ cares′ 4 p (ap₂ (λ (i j : ℕ). planRefuses 6 (run 64 0 (λ c. 0)) i j) v w ∙ enough)

@@ -1,0 +1,57 @@
+-- `reduction::reduce` meets its contract. The invariant: the state was reached from the start. The number of live rows falls in each round but the last.
+-- Assumes nothing.
+use borrow.Author.Needs.{needs}
+use mathlib.Core.Path.{refl}
+use native.Mathlib.Omega.{arith}
+use Rattle.covering.specs.Cover.{count}
+use Rattle.matrix.specs.Sets.{member}
+use Rattle.matrix.proofs.Without.{count-fewer}
+use Rattle.reduction.specs.Reduction.{ReducedTo}
+use Rattle.reduction.proofs.Steps.{start, reduced-on}
+use Rattle.reduction.proofs.reduce.Statement.{statement}
+use Rattle.reduction.proofs.reduce.Tie as tie
+
+abbrev Inv-loop : tie.InvT-loop
+Inv-loop words weights undecided state₀ state = ReducedTo words weights (state₀ .live) undecided state
+
+abbrev μ-loop : tie.MeasureT-loop
+μ-loop words weights undecided state₀ state = count 768 (member (state .live))
+
+none-requires : tie.Need-none-requires Inv-loop μ-loop
+none-requires c κs = search needs
+
+loop-holds : tie.Need-loop-holds Inv-loop μ-loop
+loop-holds c = start _ _ _ (c .none .ensures) refl
+
+pass-requires : tie.Need-pass-requires Inv-loop μ-loop
+pass-requires c κs = (c .before .before .before .before .before .pre, c .before .loop .inv .room)
+
+size-requires : tie.Need-size-requires Inv-loop μ-loop
+size-requires c κs = search needs
+
+size-requires-2 : tie.Need-size-requires-2 Inv-loop μ-loop
+size-requires-2 c κs = search needs
+
+returns : tie.Need-returns Inv-loop μ-loop
+returns c = reduced-on _ _ _ _ _ _ (c .before .before .before .before .before .before .before .before .loop .inv) (c .before .before .before .before .before .before .pass .ensures)
+
+loop-less : tie.Need-loop-less Inv-loop μ-loop
+loop-less c = omega (arith, c .before .before .before .size .ensures, c .before .size2 .ensures, c .if1 .left, count-fewer 768 _ _ (c .before .before .before .before .before .before .pass .ensures .fewer))
+
+loop-again : tie.Need-loop-again Inv-loop μ-loop
+loop-again c = reduced-on _ _ _ _ _ _ (c .before .before .before .before .before .before .before .before .loop .inv) (c .before .before .before .before .before .before .pass .ensures)
+
+pub reduce-spec : {M : Type 1} → statement M
+reduce-spec =
+    tie.close
+    (tie.spec
+    Inv-loop
+    μ-loop
+    none-requires
+    loop-holds
+    pass-requires
+    size-requires
+    size-requires-2
+    returns
+    loop-less
+    loop-again)

@@ -1,0 +1,2 @@
+-- What the reductions of a covering problem promise.
+pub mod Reduction

@@ -1,0 +1,61 @@
+// Reductions of a covering problem: row dominance, column dominance, and a column with one row takes it, repeated until nothing changes. What is left has
+// the same lightest covers, up to the rows taken.
+//
+// Rows {0, 1}, {1, 2} and {2}, each of weight 1, for the columns 0, 1 and 2: the third row is dropped for the second, and then both rows are taken.
+ghost use Prim.Native.Nat.{_≤_};
+ghost use lib.ListN.{length};
+ghost use Rattle.matrix.specs.Matrix.{Sizes};
+ghost use Rattle.reduction.specs.Reduction.{Room, Onward, ReducedTo};
+use matrix::rows;
+
+pub mod column_dominance;
+pub mod forced;
+pub mod row_dominance;
+
+// What is left of a covering problem: the live rows and the undecided columns, with the rows taken and what those weigh.
+pub struct Remaining {
+    pub live: [u64; 12],
+    pub undecided: u64,
+    pub taken: [u64; 12],
+    pub cost: u64,
+}
+
+// One round of the reductions.
+fn pass(words: &[u64], weights: &[u32], state: Remaining) -> Remaining
+    requires { ⌜ Sizes (now words) (now weights) × Room state ⌝ }
+    ensures { λ r. ⌜ Onward (now (words .entry)) (now (weights .entry)) state r ⌝ }
+{
+    let live = state.live;
+    let undecided = column_dominance::drop_columns(words, &live, state.undecided);
+    let kept = row_dominance::drop_rows(words, weights, live, undecided);
+    let taken = state.taken;
+    let rest = Remaining {
+        live: kept,
+        undecided,
+        taken,
+        cost: state.cost,
+    };
+    forced::take_forced(words, weights, rest)
+}
+
+// The reductions, repeated until no row is dropped or taken.
+pub fn reduce(words: &[u64], weights: &[u32], live: [u64; 12], undecided: u64) -> Remaining
+    requires { ⌜ Sizes (now words) (now weights) ⌝ }
+    ensures { λ r. ⌜ ReducedTo (now (words .entry)) (now (weights .entry)) live undecided r ⌝ }
+{
+    let mut state = Remaining {
+        live,
+        undecided,
+        taken: rows::none(),
+        cost: 0,
+    };
+    loop {
+        let before = state.live;
+        let next = pass(words, weights, state);
+        state = next;
+        let after = state.live;
+        if rows::size(&after) == rows::size(&before) {
+            return state;
+        }
+    }
+}

@@ -1,0 +1,110 @@
+// Row dominance: a row is dropped for another that covers all its undecided columns and weighs no more. Of equals one remains, and a row that covers no
+// undecided column is dropped for nothing.
+ghost use mathlib.Core.Path.{_≡_};
+ghost use mathlib.Core.Bool.{true};
+ghost use Prim.Native.Nat.{_≤_, _<_};
+ghost use lib.ListN.{length};
+ghost use Rattle.matrix.specs.Matrix.{Sizes};
+ghost use Rattle.matrix.specs.Sets.{Member};
+ghost use Rattle.reduction.specs.Reduction.{Dominates, Keeps};
+use matrix::columns;
+use matrix::rows;
+use matrix::transposed;
+
+// Whether the row j is another live row that covers the undecided columns of i and weighs no more.
+fn dominates(
+    words: &[u64],
+    weights: &[u32],
+    live: &[u64; 12],
+    undecided: u64,
+    i: usize,
+    j: usize,
+) -> bool
+    requires { ⌜ Sizes (now words) (now weights) × (i < length (now words)) × (j < length (now words)) ⌝ }
+    ensures { λ r. ⌜ (r ≡ true → Dominates (now (words .entry)) (now (weights .entry)) (now (live .entry)) undecided i j) ⌝ }
+{
+    if j == i {
+        return false;
+    }
+    if !rows::has(live, j) {
+        return false;
+    }
+    if weights[i] < weights[j] {
+        return false;
+    }
+    columns::inside(columns::both(words[i], undecided), words[j])
+}
+
+// The live rows that the hint has at every column of the set.
+fn candidates(live: [u64; 12], by_column: &[[u64; 12]; 64], set: u64) -> [u64; 12] {
+    let mut found = live;
+    let mut c = columns::next(set, 0);
+    while c < 64 {
+        let fewer = rows::both(found, by_column[c]);
+        found = fewer;
+        c = columns::next(set, c + 1);
+    }
+    found
+}
+
+// A candidate that dominates the row i, or the number of rows where none does.
+fn dominator(
+    words: &[u64],
+    weights: &[u32],
+    live: &[u64; 12],
+    undecided: u64,
+    found: &[u64; 12],
+    i: usize,
+) -> usize
+    requires { ⌜ Sizes (now words) (now weights) × (i < length (now words)) ⌝ }
+    ensures { λ r. ⌜ (r < length (now (words .entry)) → Dominates (now (words .entry)) (now (weights .entry)) (now (live .entry)) undecided i r) ⌝ }
+{
+    let mut j = rows::next(found, 0, words.len());
+    while j < words.len() {
+        if dominates(words, weights, live, undecided, i, j) {
+            return j;
+        }
+        j = rows::next(found, j + 1, words.len());
+    }
+    j
+}
+
+// The live rows without the row i, if it covers no undecided column or is dominated.
+fn drop_row(
+    words: &[u64],
+    weights: &[u32],
+    live: [u64; 12],
+    undecided: u64,
+    by_column: &[[u64; 12]; 64],
+    i: usize,
+) -> [u64; 12]
+    requires { ⌜ Sizes (now words) (now weights) × (i < length (now words)) ⌝ }
+    ensures { λ r. ⌜ Keeps (now (words .entry)) (now (weights .entry)) live undecided r undecided ⌝ }
+{
+    let set = columns::both(words[i], undecided);
+    if columns::is_empty(set) {
+        return rows::without_row(live, i);
+    }
+    let found = candidates(live, by_column, set);
+    let j = dominator(words, weights, &live, undecided, &found, i);
+    if j < words.len() {
+        return rows::without_row(live, i);
+    }
+    live
+}
+
+// The live rows without those that are dominated.
+pub fn drop_rows(words: &[u64], weights: &[u32], live: [u64; 12], undecided: u64) -> [u64; 12]
+    requires { ⌜ Sizes (now words) (now weights) ⌝ }
+    ensures { λ r. ⌜ Keeps (now (words .entry)) (now (weights .entry)) live undecided r undecided ⌝ }
+{
+    let by_column = transposed::fill(words, &live, undecided);
+    let mut kept = live;
+    let mut i = rows::next(&kept, 0, words.len());
+    while i < words.len() {
+        let rest = drop_row(words, weights, kept, undecided, &by_column, i);
+        kept = rest;
+        i = rows::next(&kept, i + 1, words.len());
+    }
+    kept
+}

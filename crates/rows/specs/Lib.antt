@@ -1,0 +1,2 @@
+-- What one read leads to.
+pub mod Rows

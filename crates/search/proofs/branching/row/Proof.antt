@@ -1,0 +1,56 @@
+-- `search::branching::row` meets its contract. The invariant: the best so far is a live row for the column, or none before i is. Assumes nothing.
+use borrow.Author.Needs.{needs}
+use Prim.Native.Nat.{_≤_, _<_, _-_}
+use native.Mathlib.Omega.{arith}
+use lib.ListN.{length}
+use Rattle.matrix.specs.Sets.{Member}
+use Rattle.search.proofs.RowsSeen.{SoFar, seen-none, seen-more, seen-all}
+use Rattle.search.proofs.branching.row.Statement.{statement}
+use Rattle.search.proofs.branching.row.Tie as tie
+
+abbrev Inv-loop : tie.InvT-loop
+Inv-loop words weights live undecided c best₀ i₀ best i = (i ≤ length words) × (i < length words → Member live i) × SoFar words live c (length words) i best
+
+abbrev μ-loop : tie.MeasureT-loop
+μ-loop words weights live undecided c best₀ i₀ best i = length words - i
+
+next-requires : tie.Need-next-requires Inv-loop μ-loop
+next-requires c κs = search needs
+
+loop-holds : tie.Need-loop-holds Inv-loop μ-loop
+loop-holds c = (search needs, c .next .ensures .here, seen-none _ _ _ _ (c .next .ensures))
+
+prefer-row-requires : tie.Need-prefer-row-requires Inv-loop μ-loop
+prefer-row-requires c κs = search needs
+
+add-next : tie.Need-add-next Inv-loop μ-loop
+add-next c = search needs
+
+next-requires-2 : tie.Need-next-requires-2 Inv-loop μ-loop
+next-requires-2 c κs = search needs
+
+loop-less : tie.Need-loop-less Inv-loop μ-loop
+loop-less c = search needs
+
+loop-again : tie.Need-loop-again Inv-loop μ-loop
+loop-again c =
+    let l = c .before .before .before .loop in
+    (search needs, c .next2 .ensures .here, seen-more _ _ _ _ (c .before .before .loop-test .taken) (l .inv .1 (c .before .before .loop-test .taken)) (c .next2 .ensures) (c .before .prefer-row .ensures) (l .inv .2))
+
+returns : tie.Need-returns Inv-loop μ-loop
+returns c = seen-all _ _ _ _ (c .loop-test .left) (c .before .loop .inv .2)
+
+pub row-spec : {M : Type 1} → statement M
+row-spec =
+    tie.close
+    (tie.spec
+    Inv-loop
+    μ-loop
+    next-requires
+    loop-holds
+    prefer-row-requires
+    add-next
+    next-requires-2
+    loop-less
+    loop-again
+    returns)

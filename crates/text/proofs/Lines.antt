@@ -1,0 +1,99 @@
+-- Texts put into a buffer one behind the other are one text; the lines of one row more; and how long the lines of a list are.
+-- Assumes nothing.
+use mathlib.Core.Path.{_≡_, refl, sym, ap, ap₂, _∙_, subst, subst₂}
+use mathlib.Core.List.{List, [], _∷_, _++_, append-nil, append-assoc}
+use Prim.Native.Nat.{ℕ, _+_, _*_, _^_, _<_, _≤_}
+use native.Mathlib.Nat.{zero-add, add-zero}
+use native.Mathlib.Omega.{arith}
+use lib.ListN.{length, length-append, set}
+use lib.Seq.{sets, length-sets, length-take-le}
+use Rattle.cube.specs.Below.{run}
+use Rattle.cube.specs.Words.{Row, Cover}
+use Rattle.cube.specs.Calls.{widest}
+use Rattle.cube.proofs.Below.{run-length}
+use Rattle.cube.proofs.Lent.{sets-append, sets-front}
+use Rattle.text.specs.Characters.{bytes, lineFeed}
+use Rattle.text.specs.Output.{decimal, characterOfVariable, rowLine, listLines, totals, refused, mostDigits, mostOutput}
+use Rattle.text.specs.Printing.{Puts, Prints}
+use Rattle.text.proofs.Decimals.{decimal-length}
+
+-- ---- one behind the other
+
+pub puts-none : (old : List ℕ) (at : ℕ) → Puts [] old at old at
+puts-none old at = record { behind = sym (add-zero at); places = refl }
+
+pub puts-append : {xs ys old mid new : List ℕ} {at middle next : ℕ} → Puts xs old at mid middle → Puts ys mid middle new next → Puts (xs ++ ys) old at new next
+puts-append {xs} {ys} {old} {at = at} p q = record {
+  behind = omega (arith, p .behind, q .behind, length-append xs ys);
+  places = q .places ∙ ap₂ (λ (l : List ℕ) (i : ℕ). sets l i ys) (p .places) (p .behind) ∙ sets-append old at xs ys;
+}
+
+pub puts-long : {xs old new : List ℕ} {at next : ℕ} → Puts xs old at new next → length new ≡ length old
+puts-long {xs} {old} {at = at} p = ap length (p .places) ∙ length-sets old at xs
+
+-- a loop that puts a text byte by byte, with i the bytes that are put
+pub puts-start : (old : List ℕ) (at : ℕ) → Puts [] old at old (at + 0)
+puts-start old at = subst (Puts [] old at old) (sym (add-zero at)) (puts-none old at)
+
+pub puts-turn : {xs ys old new : List ℕ} {at : ℕ} (i x : ℕ) → ys ≡ xs ++ (x ∷ []) → Puts xs old at new (at + i)
+    → Puts ys old at (set new (at + i) x) (at + (i + 1))
+puts-turn {old = old} {new} {at} i x e p =
+    let next : at + i + 1 ≡ at + (i + 1) = omega arith in
+    subst₂ (λ (l : List ℕ) (k : ℕ). Puts l old at (set new (at + i) x) k) (sym e) next (puts-append p (record { behind = refl; places = refl }))
+
+-- room for two texts is room for the first, and then for the second
+pub room-first : (xs ys old : List ℕ) (at : ℕ) → at + length (xs ++ ys) ≤ length old → at + length xs ≤ length old
+room-first xs ys old at l = omega (arith, length-append xs ys)
+
+pub room-second : {xs old new : List ℕ} {at next : ℕ} (ys : List ℕ) → Puts xs old at new next → at + length (xs ++ ys) ≤ length old → next + length ys ≤ length new
+room-second {xs} ys p l = omega (arith, length-append xs ys, p .behind, puts-long p)
+
+-- room for a last byte
+pub room-last : {xs old new : List ℕ} {at next : ℕ} (y : ℕ) → Puts xs old at new next → at + length (xs ++ (y ∷ [])) ≤ length old → next < length new
+room-last y p l = omega (arith, room-second (y ∷ []) p l)
+
+-- from the front
+pub puts-front : {text old new : List ℕ} {r : ℕ} → length text ≤ length old → Puts text old 0 new r → Prints text old new r
+puts-front {text} {old} {new} {r} l p =
+    let inside : r ≤ length new = omega (arith, p .behind, puts-long p) in
+    record { count = p .behind ∙ zero-add (length text); places = p .places ∙ sets-front text old l; inside = inside; front = sym (length-take-le r new inside) }
+
+-- ---- lines
+
+pub lines-append : (n : ℕ) (rs : Cover) (r : Row) → listLines n (rs ++ (r ∷ [])) ≡ listLines n rs ++ rowLine n r
+unfolding listLines
+lines-append n [] r = append-nil (rowLine n r)
+lines-append n (s ∷ rs) r = ap (λ (l : List ℕ). rowLine n s ++ l) (lines-append n rs r) ∙ sym (append-assoc (rowLine n s) (listLines n rs) (rowLine n r))
+
+pub line-length : (n : ℕ) (r : Row) → length (rowLine n r) ≡ n + 1
+line-length n r = length-append (run n 1 (characterOfVariable n r)) (lineFeed ∷ []) ∙ ap (λ (i : ℕ). i + 1) (run-length (characterOfVariable n r) n 1)
+
+pub lines-length : (n : ℕ) (rs : Cover) → n ≤ widest → length (listLines n rs) ≤ (widest + 1) * length rs
+unfolding listLines
+lines-length n [] l = omega arith
+lines-length n (r ∷ rs) l = omega (arith, length-append (rowLine n r) (listLines n rs), line-length n r, lines-length n rs l)
+
+-- ---- how long the texts are
+
+-- 20 digits are enough for a number of 64 bits
+digits-few : (x : ℕ) → x < 2 ^ 64 → length (decimal x) ≤ mostDigits
+digits-few x l = decimal-length 19 x (omega arith)
+
+pub totals-length : (rows bits : ℕ) → rows < 2 ^ 64 → bits < 2 ^ 64 → length (totals rows bits) ≤ length (bytes "rows  bits ") + 2 * mostDigits + 1
+totals-length rows bits l m =
+    let first : List ℕ = bytes "rows " ++ decimal rows in
+    let second : List ℕ = bytes " bits " ++ decimal bits in
+    omega (
+      arith,
+      length-append (first ++ second) (lineFeed ∷ []),
+      length-append first second,
+      length-append (bytes "rows ") (decimal rows),
+      length-append (bytes " bits ") (decimal bits),
+      digits-few rows l,
+      digits-few bits m,
+    )
+
+pub refused-length : (k : ℕ) → k < 2 ^ 64 → length (refused k) ≤ mostOutput
+refused-length k l =
+    let text : List ℕ = bytes "refused " ++ decimal k in
+    omega (arith, length-append text (lineFeed ∷ []), length-append (bytes "refused ") (decimal k), digits-few k l)

@@ -1,0 +1,37 @@
+-- `text::input::line_feed` meets its contract: the test is that of the definition. Assumes nothing.
+use mathlib.Core.Path.{_≡_, sym, ap}
+use mathlib.Core.Bool.{Bool, cond}
+use mathlib.Core.List.{List, [], _∷_}
+use Prim.Native.Nat.{ℕ, _≤_}
+use native.Mathlib.Omega.{arith}
+use lib.ListN.{length}
+use borrow.Author.Tests.{eq-eqb, ne-eqb}
+use Rattle.text.specs.Characters.{lineFeed}
+use Rattle.text.specs.Input.{mostCells, inRun, wrong}
+use Rattle.text.specs.Reading.{Takes}
+use Rattle.text.specs.declared.input.Reading.{Reading}
+use Rattle.text.specs.declared.input.Reading.the-variants.{Width, Run, Wrong}
+use Rattle.text.proofs.Readings.{takes-one}
+use Rattle.text.proofs.input.line_feed.Statement.{statement}
+use Rattle.text.proofs.input.line_feed.Tie as tie
+
+module _ (n b : ℕ) where
+  abbrev Ends : Reading → Type 0
+  Ends r = (cells : List ℕ) → mostCells ≤ length cells → Takes (Width n) cells (b ∷ []) r cells
+
+  met : b ≡ lineFeed → Ends (Run n 0)
+  met e cells l =
+      takes-one (Width n) (Run n 0) cells b (ap (λ (t : Bool). cond t (inRun n []) wrong) (sym (eq-eqb b lineFeed e))) (record { places = l; most = omega arith })
+
+  other : (b ≡ lineFeed → ⊥) → Ends Wrong
+  other e cells l =
+      takes-one (Width n) Wrong cells b (ap (λ (t : Bool). cond t (inRun n []) wrong) (sym (ne-eqb b lineFeed e))) (record { places = l; most = omega arith })
+
+returns : tie.Need-returns
+returns c = met _ _ (c .if1 .taken)
+
+returns-2 : tie.Need-returns-2
+returns-2 c = other _ _ (c .if1 .left)
+
+pub line-feed-spec : {M : Type 1} → statement M
+line-feed-spec = tie.close (tie.spec returns returns-2)

@@ -1,0 +1,39 @@
+-- `text::output::refusal` meets its contract: a word, its number and a line feed, one behind the other. Assumes nothing.
+use mathlib.Core.List.{[], _∷_, _++_}
+use Prim.Native.Nat.{_+_, _≤_}
+use native.Mathlib.Omega.{arith}
+use lib.ListN.{length}
+use borrow.Author.Needs.{needs}
+use Rattle.text.specs.Characters.{bytes, lineFeed}
+use Rattle.text.specs.Output.{decimal, refused}
+use Rattle.text.proofs.Lines.{puts-append, puts-front, room-first, room-last, refused-length}
+use Rattle.text.proofs.output.refusal.Statement.{statement}
+use Rattle.text.proofs.output.refusal.Tie as tie
+
+room : (c : tie.Start) → length (refused (c .args .k)) ≤ length (c .args .out .now)
+room c = omega (arith, c .pre, refused-length (c .args .k) (omega arith))
+
+from-front : (c : tie.Start) → 0 + length (refused (c .args .k)) ≤ length (c .args .out .now)
+from-front c = omega (arith, room c)
+
+slice-aggregate-number : tie.Need-slice-aggregate-number
+slice-aggregate-number c = search needs
+
+number-requires : tie.Need-number-requires
+number-requires c κs =
+    let s = c .before .before .before in
+    room-first (bytes "refused " ++ decimal (s .args .k)) (lineFeed ∷ []) (s .args .out .now) 0 (from-front s)
+
+line-feed-requires : tie.Need-line-feed-requires
+line-feed-requires c κs = room-last lineFeed (c .before .before .before .number .ensures) (from-front (c .before .before .before .before .before .before .before))
+
+same-length : tie.Need-same-length
+same-length c = search needs
+
+returns : tie.Need-returns
+returns c =
+    let s = c .before .before .before .before .before .before .before .before .before .before in
+    puts-front (room s) (puts-append (c .before .before .before .before .before .before .number .ensures) (c .before .before .line-feed .ensures))
+
+pub refusal-spec : {M : Type 1} → statement M
+refusal-spec = tie.close (tie.spec slice-aggregate-number number-requires line-feed-requires same-length returns)

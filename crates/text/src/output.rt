@@ -1,0 +1,138 @@
+// The printed lines. Each function writes into a lent buffer from place `at` on and returns the place behind what it wrote.
+ghost use mathlib.Core.Path.{_≡_};
+ghost use mathlib.Core.List.{[], _∷_, _++_};
+ghost use Prim.Native.Nat.{_+_, _*_, _<_, _≤_};
+ghost use lib.ListN.{length};
+ghost use Rattle.cube.specs.Theorems.{Variable};
+ghost use Rattle.cube.specs.Calls.{widest};
+ghost use Rattle.text.specs.Characters.{lineFeed, digitCharacter};
+ghost use Rattle.text.specs.Output.{characterOfVariable, rowLine, listLines, listed, refused, mostOutput};
+ghost use Rattle.text.specs.Output.{decimal as inDecimal, totals as totalLine};
+ghost use Rattle.text.specs.Printing.{Puts, firstRows, Printable, Prints};
+
+// The longest output: 64 lines of 7 bytes, and the last line with two numbers of 20 digits.
+pub const MOST_OUTPUT: usize = 500;
+
+fn word(text: &[u8], out: &mut [u8], at: usize) -> usize
+    requires { ⌜ at + length (now text) ≤ length (now out) ⌝ }
+    ensures { λ r. ⌜ Puts (now (text .entry)) (now (out .entry)) at (now (out .exit)) r ⌝ }
+{
+    let mut i = 0;
+    while i < text.len() {
+        out[at + i] = text[i];
+        i += 1;
+    }
+    at + i
+}
+
+fn digit(d: usize, out: &mut [u8], at: usize) -> usize
+    requires { ⌜ (d < 10) × (at < length (now out)) ⌝ }
+    ensures { λ r. ⌜ Puts (digitCharacter d ∷ []) (now (out .entry)) at (now (out .exit)) r ⌝ }
+{
+    out[at] = b'0' + d as u8;
+    at + 1
+}
+
+// The digits of x: those of x / 10 and then the last.
+fn decimal(x: usize, out: &mut [u8], at: usize) -> usize
+    requires { ⌜ at + length (inDecimal x) ≤ length (now out) ⌝ }
+    ensures { λ r. ⌜ Puts (inDecimal x) (now (out .entry)) at (now (out .exit)) r ⌝ }
+{
+    if x < 10 {
+        return digit(x, out, at);
+    }
+    let last = decimal(x / 10, out, at);
+    digit(x % 10, out, last)
+}
+
+// A word and a number.
+fn number(text: &[u8], x: usize, out: &mut [u8], at: usize) -> usize
+    requires { ⌜ at + length (now text ++ inDecimal x) ≤ length (now out) ⌝ }
+    ensures { λ r. ⌜ Puts (now (text .entry) ++ inDecimal x) (now (out .entry)) at (now (out .exit)) r ⌝ }
+{
+    let next = word(text, out, at);
+    decimal(x, out, next)
+}
+
+fn line_feed(out: &mut [u8], at: usize) -> usize
+    requires { ⌜ at < length (now out) ⌝ }
+    ensures { λ r. ⌜ Puts (lineFeed ∷ []) (now (out .entry)) at (now (out .exit)) r ⌝ }
+{
+    out[at] = b'\n';
+    at + 1
+}
+
+// The character of variable xk in the line of a row.
+fn character(n: usize, k: usize, value: u8, care: u8) -> u8
+    requires { ⌜ (n ≤ widest) × Variable n k ⌝ }
+    ensures { λ r. ⌜ r ≡ characterOfVariable n (record { value = value; care = care }) k ⌝ }
+{
+    let weight = spelling::codes(n - k);
+    if care as usize / weight % 2 == 0 {
+        return b'-';
+    }
+    b'0' + (value as usize / weight % 2) as u8
+}
+
+// The line of a row, x1 first.
+fn row(n: usize, value: u8, care: u8, out: &mut [u8], at: usize) -> usize
+    requires { ⌜ (n ≤ widest) × (at + (n + 1) ≤ length (now out)) ⌝ }
+    ensures { λ r. ⌜ Puts (rowLine n (record { value = value; care = care })) (now (out .entry)) at (now (out .exit)) r ⌝ }
+{
+    let mut i = 0;
+    while i < n {
+        out[at + i] = character(n, i + 1, value, care);
+        i += 1;
+    }
+    line_feed(out, at + n)
+}
+
+// The lines of the first rows of two arrays.
+fn rows(n: usize, values: &[u8], cares: &[u8], count: usize, out: &mut [u8], at: usize) -> usize
+    requires { ⌜ (n ≤ widest) × (count ≤ length (now values)) × (count ≤ length (now cares))
+        × (at + (widest + 1) * count ≤ length (now out)) ⌝ }
+    ensures { λ r. ⌜ Puts (listLines n (firstRows count (now (values .entry)) (now (cares .entry)))) (now (out .entry)) at (now (out .exit)) r ⌝ }
+{
+    let mut place = at;
+    let mut i = 0;
+    while i < count {
+        place = row(n, values[i], cares[i], out, place);
+        i += 1;
+    }
+    place
+}
+
+// The last line.
+fn totals(rows: usize, bits: usize, out: &mut [u8], at: usize) -> usize
+    requires { ⌜ at + length (totalLine rows bits) ≤ length (now out) ⌝ }
+    ensures { λ r. ⌜ Puts (totalLine rows bits) (now (out .entry)) at (now (out .exit)) r ⌝ }
+{
+    let next = number(b"rows ", rows, out, at);
+    let last = number(b" bits ", bits, out, next);
+    line_feed(out, last)
+}
+
+// What is printed for a list: its lines and its two counts. Returns the length.
+pub fn list(
+    n: usize,
+    values: &[u8],
+    cares: &[u8],
+    count: usize,
+    bits: usize,
+    out: &mut [u8],
+) -> usize
+    requires { ⌜ Printable n (now values) (now cares) count (now out) ⌝ }
+    ensures { λ r. ⌜ Prints (listed n (firstRows count (now (values .entry)) (now (cares .entry))) count bits) (now (out .entry)) (now (out .exit)) r ⌝ }
+{
+    let at = rows(n, values, cares, count, out, 0);
+    totals(count, bits, out, at)
+}
+
+// What is printed for a refusal with number k. Returns the length.
+pub fn refusal(k: u8, out: &mut [u8]) -> usize
+    requires { ⌜ mostOutput ≤ length (now out) ⌝ }
+    ensures { λ r. ⌜ Prints (refused k) (now (out .entry)) (now (out .exit)) r ⌝ }
+{
+    let last = number(b"refused ", k as usize, out, 0);
+    line_feed(out, last)
+}
