@@ -8,14 +8,16 @@ use Prim.Native.Nat.{ℕ, _+_, _-_, _*_, _/_, _≤_, _<_}
 use native.Mathlib.Nat.{div-mul-le-self, mul-le-mul-right}
 use native.Mathlib.Decide.{decLt}
 use native.Mathlib.Omega.{arith}
+use lib.Bits.{bitAnd, bitXor}
 use lib.Dec.{eqb}
 use lib.ListN.{length, getD}
 use Rattle.covering.specs.Sum.{pick, sum}
 use Rattle.covering.specs.Cover.{AtLeast}
-use Rattle.covering.proofs.Sums.{sum-same, sum-mono, pick-true, pick-mono}
+use Rattle.covering.proofs.Sums.{sum-same, sum-mono, sum-add, pick-true, pick-false, pick-mono}
 use Rattle.covering.proofs.Bounds.{smaller, narrower, nothing, column, dual, in-rows, branch, useful}
 use Rattle.matrix.specs.Sets.{has, In, member, Member}
 use Rattle.matrix.specs.Matrix.{covers, weightOf, Low}
+use Rattle.matrix.proofs.Bits.{has-without}
 use Rattle.matrix.proofs.Without.{kept-of, left-in, left-rest, covers-past}
 use Rattle.bound.specs.Bound.{worth, Pays, Feasible, Ranges, Kept, Bounds}
 
@@ -23,6 +25,20 @@ use Rattle.bound.specs.Bound.{worth, Pays, Feasible, Ranges, Kept, Bound
 pub pays-by : (words weights prices : List ℕ) (u i s r : ℕ) → ((x : ℕ) → has s x ≡ (has (getD words i 0) x && has u x)) → r ≡ worth prices s → r ≤ weightOf weights i → Pays words weights u prices i
 pays-by words weights prices u i s r e v l =
     omega (arith, sum-same 64 {f = λ c. pick (has s c) (getD prices c 0)} {g = λ c. pick (has (getD words i 0) c && has u c) (getD prices c 0)} (λ c m. ap (λ (b : Bool). pick b (getD prices c 0)) (e c)))
+
+-- a set is worth what it shares with another and what it has beside that
+worth-split : (prices : List ℕ) (u s left : ℕ) (p : ℕ → Bool) → ((x : ℕ) → has s x ≡ (p x && has u x)) → ((x : ℕ) → has left x ≡ (has u x && not (p x)))
+    → worth prices u ≡ worth prices s + worth prices left
+worth-split prices u s left p e d =
+    sum-same 64 {f = λ c. pick (has u c) (getD prices c 0)} {g = λ c. pick (has s c) (getD prices c 0) + pick (has left c) (getD prices c 0)}
+    (λ c l. split (p c) (has u c) (e c) (d c) (getD prices c 0))
+    ∙ sum-add 64 (λ c. pick (has s c) (getD prices c 0)) (λ c. pick (has left c) (getD prices c 0))
+  where
+    split : (a b : Bool) {r t : Bool} → r ≡ (a && b) → t ≡ (b && not a) → (y : ℕ) → pick b y ≡ pick r y + pick t y
+    split true true e d y = omega (arith, pick-true y e, pick-false y d)
+    split true false e d y = omega (arith, pick-false y e, pick-false y d)
+    split false true e d y = omega (arith, pick-false y e, pick-true y d)
+    split false false e d y = omega (arith, pick-false y e, pick-false y d)
 
 module _ (words weights : List ℕ) where
   -- ---- the bound
@@ -80,14 +96,21 @@ module _ (words weights : List ℕ) where
   pub kept-then : (live rest last : List ℕ) (u limit : ℕ) → Kept words weights live u limit rest → Kept words weights rest u limit last → Kept words weights live u limit last
   kept-then live rest last u limit f g = record { fewer = λ i h. f .fewer i (g .fewer i h); low = λ k l b. f .low k l (g .low k l b) }
 
-  pub kept-without : (live rest prices : List ℕ) (u limit i left : ℕ) → ((j : ℕ) → member rest j ≡ (member live j && not (eqb j i)))
-      → ((x : ℕ) → has left x ≡ (has u x && not (has (getD words i 0) x))) → Feasible words weights live u prices → limit ≤ weightOf weights i + worth prices left
-      → Kept words weights live u limit rest
-  kept-without live rest prices u limit i left e d f l = record {
-    fewer = left-in live rest i e;
-    low = λ k m b. branch (covers words) (weightOf weights) i (left-rest live rest i e) k (λ c h. kept-of (has u c) (has (getD words i 0) c) (d c) h)
-        (feasible-low rest prices left (feasible-less live rest prices u left (left-in live rest i e) (λ x h. kept-of (has u x) (has (getD words i 0) x) (d x) h .0) f)) b (omega arith) (omega arith);
-  }
+  -- what a row leaves is worth the total less what the row pays for
+  pub kept-without : (live rest prices : List ℕ) (u limit i s paid total : ℕ) → ((j : ℕ) → member rest j ≡ (member live j && not (eqb j i)))
+      → ((x : ℕ) → has s x ≡ (has (getD words i 0) x && has u x)) → paid ≡ worth prices s → total ≡ worth prices u → Feasible words weights live u prices
+      → limit + paid ≤ weightOf weights i + total → Kept words weights live u limit rest
+  kept-without live rest prices u limit i s paid total e d ep et f l = record
+    { fewer = left-in live rest i e
+    ; low = λ k m b. branch (covers words) (weightOf weights) i (left-rest live rest i e) k (λ c h. kept-of (has u c) (has (getD words i 0) c) (gone c) h)
+        (feasible-low rest prices left (feasible-less live rest prices u left (left-in live rest i e) (λ x h. kept-of (has u x) (has (getD words i 0) x) (gone x) h .0) f)) b
+        (omega (arith, ep, et, worth-split prices u s left (λ c. has (getD words i 0) c) d gone)) (omega arith) }
+    where
+      left : ℕ
+      left = bitXor u (bitAnd u (getD words i 0))
+
+      gone : (x : ℕ) → has left x ≡ (has u x && not (has (getD words i 0) x))
+      gone x = has-without u (getD words i 0) x
 
   -- ---- both
 

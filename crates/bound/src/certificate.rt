@@ -124,13 +124,14 @@ fn fix_row(
     undecided: u64,
     limit: u64,
     prices: &[u32; 64],
+    total: u64,
     i: usize,
 ) -> [u64; 12]
-    requires { ⌜ Sizes (now words) (now weights) × (i < length (now words)) × Feasible (now words) (now weights) live undecided (now prices) ⌝ }
+    requires { ⌜ Sizes (now words) (now weights) × (i < length (now words)) × (limit < 2 ^ 48) × Valued (now prices) undecided total × Feasible (now words) (now weights) live undecided (now prices) ⌝ }
     ensures { λ r. ⌜ Kept (now (words .entry)) (now (weights .entry)) live undecided limit r ⌝ }
 {
-    let left = value(prices, columns::without(undecided, words[i]));
-    if limit <= matrix::weight(weights, i) + left {
+    let paid = value(prices, columns::both(words[i], undecided));
+    if limit + paid <= matrix::weight(weights, i) + total {
         return rows::without_row(live, i);
     }
     live
@@ -144,14 +145,15 @@ fn fix_rows(
     undecided: u64,
     limit: u64,
     prices: &[u32; 64],
+    total: u64,
 ) -> [u64; 12]
-    requires { ⌜ Sizes (now words) (now weights) × Feasible (now words) (now weights) live undecided (now prices) ⌝ }
+    requires { ⌜ Sizes (now words) (now weights) × (limit < 2 ^ 48) × Valued (now prices) undecided total × Feasible (now words) (now weights) live undecided (now prices) ⌝ }
     ensures { λ r. ⌜ Kept (now (words .entry)) (now (weights .entry)) live undecided limit r ⌝ }
 {
     let mut kept = live;
     let mut i = rows::next(&kept, 0, words.len());
     while i < words.len() {
-        let rest = fix_row(words, weights, kept, undecided, limit, prices, i);
+        let rest = fix_row(words, weights, kept, undecided, limit, prices, total, i);
         kept = rest;
         i = rows::next(&kept, i + 1, words.len());
     }
@@ -167,16 +169,17 @@ pub fn certified(
     limit: u64,
     prices: &[u32; 64],
 ) -> Bounded
-    requires { ⌜ Sizes (now words) (now weights) ⌝ }
+    requires { ⌜ Sizes (now words) (now weights) × (limit < 2 ^ 48) ⌝ }
     ensures { λ r. ⌜ Bounds (now (words .entry)) (now (weights .entry)) live undecided limit (r .low) (r .live) ⌝ }
 {
     if !feasible(words, weights, &live, undecided, prices) {
         return Bounded { low: 0, live };
     }
-    let low = rounded(words, weights, &live, value(prices, undecided));
+    let total = value(prices, undecided);
+    let low = rounded(words, weights, &live, total);
     if limit <= low {
         return Bounded { low, live };
     }
-    let kept = fix_rows(words, weights, live, undecided, limit, prices);
+    let kept = fix_rows(words, weights, live, undecided, limit, prices, total);
     Bounded { low, live: kept }
 }

@@ -20,6 +20,9 @@ fn least_slack(slack: &[u32; 768], set: &[u64; 12], end: usize) -> u32
     let mut i = rows::next(set, 0, end);
     while i < end {
         least = smaller(least, slack[i]);
+        if least == 0 {
+            return 0;
+        }
         i = rows::next(set, i + 1, end);
     }
     least
@@ -48,6 +51,9 @@ fn set_price(
     requires { ⌜ (end ≤ 768) × (c < 64) ⌝ }
 {
     let amount = std::num::wrapping_sub_u32(prices[c], price);
+    if amount == 0 {
+        return;
+    }
     prices[c] = price;
     add(slack, &by_column[c], end, amount);
 }
@@ -63,10 +69,8 @@ fn raise(
     requires { ⌜ (end ≤ 768) × (c < 64) ⌝ }
 {
     let amount = least_slack(slack, &by_column[c], end);
-    if 0 < amount {
-        let price = std::num::wrapping_add_u32(prices[c], amount);
-        set_price(by_column, prices, slack, end, c, price);
-    }
+    let price = std::num::wrapping_add_u32(prices[c], amount);
+    set_price(by_column, prices, slack, end, c, price);
 }
 
 // The prices of the columns of a set raised.
@@ -87,11 +91,13 @@ fn raise_all(
 }
 
 // The undecided columns by the number of their rows, up to 15.
-fn by_rows(by_column: &[[u64; 12]; 64], undecided: u64) -> [u64; 16] {
+fn by_rows(by_column: &[[u64; 12]; 64], end: usize, undecided: u64) -> [u64; 16]
+    requires { ⌜ end ≤ 768 ⌝ }
+{
     let mut levels = [0u64; 16];
     let mut c = columns::next(undecided, 0);
     while c < 64 {
-        let level = at_most_15(rows::size(&by_column[c]));
+        let level = at_most_15(rows::size(&by_column[c], end));
         levels[level] = columns::either(levels[level], columns::only(c));
         c = columns::next(undecided, c + 1);
     }
@@ -114,7 +120,7 @@ fn ascend(
 )
     requires { ⌜ end ≤ 768 ⌝ }
 {
-    let levels = by_rows(by_column, undecided);
+    let levels = by_rows(by_column, end, undecided);
     let mut level: usize = 0;
     while level < 16 {
         raise_all(by_column, prices, slack, end, levels[level]);
@@ -153,20 +159,22 @@ fn columns_of(words: &[u64], set: &[u64; 12]) -> u64
     found
 }
 
-// The price of the column c released and those of its neighbours raised, unless the prices are then worth less together.
+// The price of the column c released and those of its neighbours raised, unless the prices are then worth less together than they were. What they are
+// worth now.
 fn retry(
     words: &[u64],
     by_column: &[[u64; 12]; 64],
     prices: &mut [u32; 64],
     slack: &mut [u32; 768],
     undecided: u64,
+    worth: u64,
     c: usize,
-)
+) -> u64
     requires { ⌜ (length (now words) ≤ 768) × (c < 64) ⌝ }
 {
     let saved = *prices;
     if saved[c] == 0 {
-        return;
+        return worth;
     }
     let near = columns::both(columns_of(words, &by_column[c]), undecided);
     set_price(by_column, prices, slack, words.len(), c, 0);
@@ -178,9 +186,12 @@ fn retry(
         columns::without(near, columns::only(c)),
     );
     raise(by_column, prices, slack, words.len(), c);
-    if certificate::value(prices, undecided) < certificate::value(&saved, undecided) {
-        restore(by_column, prices, slack, words.len(), near, &saved);
+    let changed = certificate::value(prices, undecided);
+    if worth <= changed {
+        return changed;
     }
+    restore(by_column, prices, slack, words.len(), near, &saved);
+    worth
 }
 
 // Each undecided column retried.
@@ -193,9 +204,10 @@ fn improve(
 )
     requires { ⌜ length (now words) ≤ 768 ⌝ }
 {
+    let mut worth = certificate::value(prices, undecided);
     let mut c = columns::next(undecided, 0);
     while c < 64 {
-        retry(words, by_column, prices, slack, undecided, c);
+        worth = retry(words, by_column, prices, slack, undecided, worth, c);
         c = columns::next(undecided, c + 1);
     }
 }

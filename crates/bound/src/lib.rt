@@ -3,7 +3,7 @@
 //
 // Three columns and three rows of weight 2, each with two of the columns: the price 1 for each column is a certificate for 3, and 3 asks for two rows, so
 // every cover weighs at least 4.
-ghost use Prim.Native.Nat.{_≤_};
+ghost use Prim.Native.Nat.{_^_, _<_};
 ghost use Rattle.matrix.specs.Matrix.{Sizes};
 ghost use Rattle.bound.specs.Bound.{Bounds};
 
@@ -18,7 +18,7 @@ pub fn tighten(
     undecided: u64,
     limit: u64,
 ) -> certificate::Bounded
-    requires { ⌜ Sizes (now words) (now weights) ⌝ }
+    requires { ⌜ Sizes (now words) (now weights) × (limit < 2 ^ 48) ⌝ }
     ensures { λ r. ⌜ Bounds (now (words .entry)) (now (weights .entry)) live undecided limit (r .low) (r .live) ⌝ }
 {
     let ascent = dual::from_zero(words, weights, &live, undecided);

@@ -58,19 +58,6 @@ pub fn either(a: [u64; 12], b: [u64; 12]) -> [u64; 12]
     set
 }
 
-// The rows of both sets.
-pub fn both(a: [u64; 12], b: [u64; 12]) -> [u64; 12]
-    ensures { λ r. ⌜ ((j : ℕ) → member r j ≡ (member a j && member b j)) ⌝ }
-{
-    let mut set = a;
-    let mut k: usize = 0;
-    while k < 12 {
-        set[k] = columns::both(set[k], b[k]);
-        k += 1;
-    }
-    set
-}
-
 // The rows below n.
 pub fn below(n: usize) -> [u64; 12]
     requires { ⌜ n ≤ 768 ⌝ }
@@ -107,15 +94,16 @@ pub fn next(set: &[u64; 12], from: usize, end: usize) -> usize
     end
 }
 
-// How many rows a set has.
-pub fn size(set: &[u64; 12]) -> usize
-    ensures { λ r. ⌜ r ≡ count 768 (member (now (set .entry))) ⌝ }
+// How many rows before `end` a set has.
+pub fn size(set: &[u64; 12], end: usize) -> usize
+    requires { ⌜ end ≤ 768 ⌝ }
+    ensures { λ r. ⌜ r ≡ count end (member (now (set .entry))) ⌝ }
 {
     let mut n: usize = 0;
-    let mut i = next(set, 0, 768);
-    while i < 768 {
+    let mut i = next(set, 0, end);
+    while i < end {
         n += 1;
-        i = next(set, i + 1, 768);
+        i = next(set, i + 1, end);
     }
     n
 }

@@ -49,13 +49,15 @@ pub fn reduce(words: &[u64], weights: &[u32], live: [u64; 12], undecided: u64) -
         taken: rows::none(),
         cost: 0,
     };
+    let mut size = rows::size(&live, words.len());
     loop {
-        let before = state.live;
         let next = pass(words, weights, state);
         state = next;
-        let after = state.live;
-        if rows::size(&after) == rows::size(&before) {
+        let left = state.live;
+        let fewer = rows::size(&left, words.len());
+        if fewer == size {
             return state;
         }
+        size = fewer;
     }
 }

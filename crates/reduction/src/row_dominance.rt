@@ -23,31 +23,19 @@ fn dominates(
     requires { ⌜ Sizes (now words) (now weights) × (i < length (now words)) × (j < length (now words)) ⌝ }
     ensures { λ r. ⌜ (r ≡ true → Dominates (now (words .entry)) (now (weights .entry)) (now (live .entry)) undecided i j) ⌝ }
 {
-    if j == i {
+    if !columns::inside(columns::both(words[i], undecided), words[j]) {
         return false;
     }
-    if !rows::has(live, j) {
+    if j == i {
         return false;
     }
     if weights[i] < weights[j] {
         return false;
     }
-    columns::inside(columns::both(words[i], undecided), words[j])
+    rows::has(live, j)
 }
 
-// The live rows that the hint has at every column of the set.
-fn candidates(live: [u64; 12], by_column: &[[u64; 12]; 64], set: u64) -> [u64; 12] {
-    let mut found = live;
-    let mut c = columns::next(set, 0);
-    while c < 64 {
-        let fewer = rows::both(found, by_column[c]);
-        found = fewer;
-        c = columns::next(set, c + 1);
-    }
-    found
-}
-
-// A candidate that dominates the row i, or the number of rows where none does.
+// A row of the set `found` that dominates the row i, or the number of rows where none does.
 fn dominator(
     words: &[u64],
     weights: &[u32],
@@ -85,8 +73,8 @@ fn drop_row(
     if columns::is_empty(set) {
         return rows::without_row(live, i);
     }
-    let found = candidates(live, by_column, set);
-    let j = dominator(words, weights, &live, undecided, &found, i);
+    let first = columns::next(set, 0) % 64;
+    let j = dominator(words, weights, &live, undecided, &by_column[first], i);
     if j < words.len() {
         return rows::without_row(live, i);
     }

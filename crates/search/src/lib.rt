@@ -130,6 +130,7 @@ fn choose(
         depth: 0,
     };
     loop {
+        let best = incumbent.weight;
         let r = branching::row(words, weights, &untried, undecided, c);
         if r == words.len() {
             return incumbent;
@@ -138,7 +139,7 @@ fn choose(
         untried = rest;
         let w = matrix::weight(weights, r);
         let left = columns::without(undecided, words[r]);
-        let found = reduce(words, weights, untried, left, room(incumbent.weight, w));
+        let found = reduce(words, weights, untried, left, room(best, w));
         incumbent = better(incumbent, found, r, w);
     }
 }

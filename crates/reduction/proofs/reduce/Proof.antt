@@ -1,8 +1,9 @@
--- `reduction::reduce` meets its contract. The invariant: the state was reached from the start. The number of live rows falls in each round but the last.
--- Assumes nothing.
+-- `reduction::reduce` meets its contract. The invariant: the state was reached from the start, and `size` is the number of its live rows, which falls in each
+-- round but the last. Assumes nothing.
 use borrow.Author.Needs.{needs}
-use mathlib.Core.Path.{refl}
+use mathlib.Core.Path.{_≡_, refl}
 use native.Mathlib.Omega.{arith}
+use lib.ListN.{length}
 use Rattle.covering.specs.Cover.{count}
 use Rattle.matrix.specs.Sets.{member}
 use Rattle.matrix.proofs.Without.{count-fewer}
@@ -12,34 +13,34 @@ use Rattle.reduction.proofs.reduce.Statement.{statement}
 use Rattle.reduction.proofs.reduce.Tie as tie
 
 abbrev Inv-loop : tie.InvT-loop
-Inv-loop words weights undecided state₀ state = ReducedTo words weights (state₀ .live) undecided state
+Inv-loop words weights undecided state₀ size₀ state size = ReducedTo words weights (state₀ .live) undecided state × (size ≡ count (length words) (member (state .live)))
 
 abbrev μ-loop : tie.MeasureT-loop
-μ-loop words weights undecided state₀ state = count 768 (member (state .live))
+μ-loop words weights undecided state₀ size₀ state size = size
 
 none-requires : tie.Need-none-requires Inv-loop μ-loop
 none-requires c κs = search needs
 
-loop-holds : tie.Need-loop-holds Inv-loop μ-loop
-loop-holds c = start _ _ _ (c .none .ensures) refl
-
-pass-requires : tie.Need-pass-requires Inv-loop μ-loop
-pass-requires c κs = (c .before .before .before .before .before .pre, c .before .loop .inv .room)
-
 size-requires : tie.Need-size-requires Inv-loop μ-loop
 size-requires c κs = search needs
+
+loop-holds : tie.Need-loop-holds Inv-loop μ-loop
+loop-holds c = (start _ _ _ (c .before .before .none .ensures) refl, c .size .ensures)
+
+pass-requires : tie.Need-pass-requires Inv-loop μ-loop
+pass-requires c κs = (c .before .before .before .before .before .before .pre, c .loop .inv .0 .room)
 
 size-requires-2 : tie.Need-size-requires-2 Inv-loop μ-loop
 size-requires-2 c κs = search needs
 
 returns : tie.Need-returns Inv-loop μ-loop
-returns c = reduced-on _ _ _ _ _ _ (c .before .before .before .before .before .before .before .before .loop .inv) (c .before .before .before .before .before .before .pass .ensures)
+returns c = reduced-on _ _ _ _ _ _ (c .before .before .before .before .before .loop .inv .0) (c .before .before .before .before .pass .ensures)
 
 loop-less : tie.Need-loop-less Inv-loop μ-loop
-loop-less c = omega (arith, c .before .before .before .size .ensures, c .before .size2 .ensures, c .if1 .left, count-fewer 768 _ _ (c .before .before .before .before .before .before .pass .ensures .fewer))
+loop-less c = omega (arith, c .before .size2 .ensures, c .before .before .before .before .before .loop .inv .1, c .if1 .left, count-fewer (length (c .before .before .before .before .before .before .before .before .before .before .before .args .words .now)) _ _ (c .before .before .before .before .pass .ensures .fewer))
 
 loop-again : tie.Need-loop-again Inv-loop μ-loop
-loop-again c = reduced-on _ _ _ _ _ _ (c .before .before .before .before .before .before .before .before .loop .inv) (c .before .before .before .before .before .before .pass .ensures)
+loop-again c = (reduced-on _ _ _ _ _ _ (c .before .before .before .before .before .loop .inv .0) (c .before .before .before .before .pass .ensures), c .before .size2 .ensures)
 
 pub reduce-spec : {M : Type 1} → statement M
 reduce-spec =
@@ -48,9 +49,9 @@ reduce-spec =
     Inv-loop
     μ-loop
     none-requires
+    size-requires
     loop-holds
     pass-requires
-    size-requires
     size-requires-2
     returns
     loop-less

@@ -142,18 +142,15 @@ module _ (t : ℕ) where
       let s = c .before .before .before .before .before .before .before .before .before .before .before .before in
       let r = c .before .before .before .before .before .before .row in
       let l : r .result < length (s .args .words .now) = omega (arith, r .ensures .within, c .before .before .before .before .before .if1 .left) in
-      let i = c .before .before .before .before .before .before .before .before .loop in (
-        omega (arith, s .pre .0, count-fewer 768 _ (i .untried) (i .inv .fewer), left-count _ _ _ (c .before .before .before .before .without-row .ensures) 768 (omega (arith, s .pre .1 .0 .few)) (r .ensures .here l .0)),
-        (s .pre .1 .0, omega (arith, c .room .ensures, i .inv .within, s .pre .1 .1)),
-      )
+      let i = c .before .before .before .before .before .before .before .before .loop in
+      (omega (arith, s .pre .0, count-fewer 768 _ (i .untried) (i .inv .fewer), left-count _ _ _ (c .before .before .before .before .without-row .ensures) 768 (omega (arith, s .pre .1 .0 .few)) (r .ensures .here l .0)),
+      (s .pre .1 .0, omega (arith, c .room .ensures, i .inv .within, s .pre .1 .1)))
 
   choose-better-requires : choose-lts.Need-better-requires choose-claims choose-at choose.Post choose-Inv-loop choose-μ-loop
   choose-better-requires c κs =
-      let s = c .before .before .before .before .before .before .before .before .before .before .before .before .before in (
-        omega (arith, c .before .before .before .before .before .before .before .row .ensures .within, c .before .before .before .before .before .before .if1 .left, s .pre .1 .0 .few),
-        c .before .before .before .before .weight .ensures .1,
-        omega (arith, c .reduce .ensures .within, c .before .room .ensures, c .before .before .before .before .before .before .before .before .before .loop .inv .within, s .pre .1 .1),
-      )
+      let s = c .before .before .before .before .before .before .before .before .before .before .before .before .before in
+      (omega (arith, c .before .before .before .before .before .before .before .row .ensures .within, c .before .before .before .before .before .before .if1 .left, s .pre .1 .0 .few), c .before .before .before .before .weight .ensures .1,
+      omega (arith, c .reduce .ensures .within, c .before .room .ensures, c .before .before .before .before .before .before .before .before .before .loop .inv .within, s .pre .1 .1))
 
   choose-loop-less : choose-lts.Need-loop-less choose-claims choose-at choose.Post choose-Inv-loop choose-μ-loop
   choose-loop-less c =
@@ -189,7 +186,7 @@ module _ (t : ℕ) where
   reduce-sub-below c = omega (arith, c .before .before .before .before .if1 .left)
 
   reduce-tighten-requires : reduce-lts.Need-tighten-requires reduce-claims reduce-at reduce.Post
-  reduce-tighten-requires c κs = c .before .before .before .before .before .before .before .before .before .before .pre .1 .0
+  reduce-tighten-requires c κs = (c .before .before .before .before .before .before .before .before .before .before .pre .1 .0, omega (arith, c .before .before .before .before .before .before .before .before .before .before .pre .1 .1))
 
   reduce-none-below-requires-2 : reduce-lts.Need-none-below-requires-2 reduce-claims reduce-at reduce.Post
   reduce-none-below-requires-2 c κs = tt
@@ -203,10 +200,9 @@ module _ (t : ℕ) where
   reduce-choose-requires : reduce-lts.Need-choose-requires reduce-claims reduce-at reduce.Post
   reduce-choose-requires c κs =
       let s = c .before .before .before .before .before .before .before .before .before .before .before .before .before .before .before .before in
-      let r = c .before .before .before .before .before .before .before .before .before .before .before .before .before .reduce in (
-        omega (arith, s .pre .0, count-fewer 768 _ (r .result .live) (r .ensures .reduced .fewer), count-fewer 768 _ (c .before .before .before .before .before .tighten .result .live) (c .before .before .before .before .before .tighten .ensures .kept .fewer)),
-        (s .pre .1 .0, omega (arith, s .pre .1 .1), c .column .ensures),
-      )
+      let r = c .before .before .before .before .before .before .before .before .before .before .before .before .before .reduce in
+      (omega (arith, s .pre .0, count-fewer 768 _ (r .result .live) (r .ensures .reduced .fewer), count-fewer 768 _ (c .before .before .before .before .before .tighten .result .live) (c .before .before .before .before .before .tighten .ensures .kept .fewer)),
+      (s .pre .1 .0, omega (arith, s .pre .1 .1), c .column .ensures))
 
   reduce-add-t19 : reduce-lts.Need-add-t19 reduce-claims reduce-at reduce.Post
   reduce-add-t19 c = omega (arith, c .before .before .before .choose .ensures .within, c .before .before .before .before .before .before .before .before .before .before .before .before .before .before .before .if1 .left, c .before .before .before .before .before .before .before .before .before .before .before .before .before .before .before .before .before .before .before .before .pre .1 .1)

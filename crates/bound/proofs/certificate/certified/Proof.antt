@@ -1,7 +1,6 @@
 -- `bound::certificate::certified` meets its contract: nothing is shown, or the prices are feasible, and then their value, rounded up, is a lower bound.
 -- Assumes nothing.
 use borrow.Author.Needs.{needs}
-use mathlib.Core.Path.{sym}
 use borrow.Author.Tests.{not-false}
 use Rattle.bound.proofs.Pricing.{feasible-low, kept-all, bounds-by}
 use Rattle.bound.proofs.certificate.certified.Statement.{statement}
@@ -24,18 +23,18 @@ returns-2 c =
     let a = c .before .before .before .before .before .before .before .before .before .args in
     let f = c .before .before .before .before .before .feasible .ensures (not-false _ (c .before .before .before .before .if1 .left)) in
     bounds-by (a .words .now) (a .weights .now) _ _ _ _ _
-    (c .before .rounded .ensures (a .undecided) (rw (c .before .before .value .ensures .is) (feasible-low (a .words .now) (a .weights .now) _ (a .prices .now) (a .undecided) f)))
+    (c .before .rounded .ensures (a .undecided) (rw (c .before .before .before .value .ensures .is) (feasible-low (a .words .now) (a .weights .now) _ (a .prices .now) (a .undecided) f)))
     (kept-all _ _ _ _ _)
 
 fix-rows-requires : tie.Need-fix-rows-requires
-fix-rows-requires c κs = (c .before .before .before .before .before .before .before .before .before .pre, c .before .before .before .before .before .feasible .ensures (not-false _ (c .before .before .before .before .if1 .left)))
+fix-rows-requires c κs = (c .before .before .before .before .before .before .before .before .before .pre .0, c .before .before .before .before .before .before .before .before .before .pre .1, c .before .before .before .value .ensures, c .before .before .before .before .before .feasible .ensures (not-false _ (c .before .before .before .before .if1 .left)))
 
 returns-3 : tie.Need-returns-3
 returns-3 c =
     let a = c .before .before .before .before .before .before .before .before .before .before .args in
     let f = c .before .before .before .before .before .before .feasible .ensures (not-false _ (c .before .before .before .before .before .if1 .left)) in
     bounds-by (a .words .now) (a .weights .now) _ _ _ _ _
-    (c .before .before .rounded .ensures (a .undecided) (rw (c .before .before .before .value .ensures .is) (feasible-low (a .words .now) (a .weights .now) _ (a .prices .now) (a .undecided) f)))
+    (c .before .before .rounded .ensures (a .undecided) (rw (c .before .before .before .before .value .ensures .is) (feasible-low (a .words .now) (a .weights .now) _ (a .prices .now) (a .undecided) f)))
     (c .fix-rows .ensures)
 
 pub certified-spec : {M : Type 1} → statement M

@@ -8,10 +8,10 @@ use Rattle.bound.proofs.certificate.fix_rows.Statement.{statement}
 use Rattle.bound.proofs.certificate.fix_rows.Tie as tie
 
 abbrev Inv-loop : tie.InvT-loop
-Inv-loop words weights undecided limit prices kept₀ i₀ kept i = (i ≤ length words) × Kept words weights kept₀ undecided limit kept
+Inv-loop words weights undecided limit prices total kept₀ i₀ kept i = (i ≤ length words) × Kept words weights kept₀ undecided limit kept
 
 abbrev μ-loop : tie.MeasureT-loop
-μ-loop words weights undecided limit prices kept₀ i₀ kept i = length words - i
+μ-loop words weights undecided limit prices total kept₀ i₀ kept i = length words - i
 
 next-requires : tie.Need-next-requires Inv-loop μ-loop
 next-requires c κs = search needs
@@ -22,7 +22,9 @@ loop-holds c = (search needs, kept-all _ _ _ _ _)
 fix-row-requires : tie.Need-fix-row-requires Inv-loop μ-loop
 fix-row-requires c κs =
     let s = c .before .before .before .before .before .before in
-    (s .pre .0, c .loop-test .taken, feasible-less (s .args .words .now) (s .args .weights .now) (s .args .live) _ (s .args .prices .now) _ _ (c .before .loop .inv .1 .fewer) (λ x h. h) (s .pre .1))
+    let a = s .args in
+    (s .pre .0, c .loop-test .taken, s .pre .1, s .pre .2,
+    feasible-less (a .words .now) (a .weights .now) (a .live) _ (a .prices .now) _ _ (c .before .loop .inv .1 .fewer) (λ x h. h) (s .pre .3))
 
 add-next : tie.Need-add-next Inv-loop μ-loop
 add-next c = search needs

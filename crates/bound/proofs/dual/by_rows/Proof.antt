@@ -5,10 +5,10 @@ use Rattle.bound.proofs.dual.by_rows.Statement.{statement}
 use Rattle.bound.proofs.dual.by_rows.Tie as tie
 
 abbrev Inv-loop : tie.InvT-loop
-Inv-loop by-column undecided levels₀ c₀ levels c = c ≤ 64
+Inv-loop by-column end undecided levels₀ c₀ levels c = c ≤ 64
 
 abbrev μ-loop : tie.MeasureT-loop
-μ-loop by-column undecided levels₀ c₀ levels c = 64 - c
+μ-loop by-column end undecided levels₀ c₀ levels c = 64 - c
 
 next-requires : tie.Need-next-requires Inv-loop μ-loop
 next-requires c κs = search needs

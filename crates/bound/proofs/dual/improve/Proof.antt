@@ -5,10 +5,13 @@ use Rattle.bound.proofs.dual.improve.Statement.{statement}
 use Rattle.bound.proofs.dual.improve.Tie as tie
 
 abbrev Inv-loop : tie.InvT-loop
-Inv-loop words by-column prices₀ slack₀ undecided c₀ prices slack c = c ≤ 64
+Inv-loop words by-column prices₀ slack₀ undecided worth₀ c₀ prices slack worth c = c ≤ 64
 
 abbrev μ-loop : tie.MeasureT-loop
-μ-loop words by-column prices₀ slack₀ undecided c₀ prices slack c = 64 - c
+μ-loop words by-column prices₀ slack₀ undecided worth₀ c₀ prices slack worth c = 64 - c
+
+value-requires : tie.Need-value-requires Inv-loop μ-loop
+value-requires c κs = search needs
 
 next-requires : tie.Need-next-requires Inv-loop μ-loop
 next-requires c κs = search needs
@@ -40,6 +43,7 @@ improve-spec =
     (tie.spec
     Inv-loop
     μ-loop
+    value-requires
     next-requires
     loop-holds
     retry-requires

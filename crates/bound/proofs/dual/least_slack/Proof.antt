@@ -25,6 +25,9 @@ element-copy-out-smaller c = search needs
 smaller-requires : tie.Need-smaller-requires Inv-loop μ-loop
 smaller-requires c κs = search needs
 
+returns : tie.Need-returns Inv-loop μ-loop
+returns c = search needs
+
 add-next : tie.Need-add-next Inv-loop μ-loop
 add-next c = search needs
 
@@ -37,8 +40,8 @@ loop-less c = search needs
 loop-again : tie.Need-loop-again Inv-loop μ-loop
 loop-again c = search needs
 
-returns : tie.Need-returns Inv-loop μ-loop
-returns c = search needs
+returns-2 : tie.Need-returns-2 Inv-loop μ-loop
+returns-2 c = search needs
 
 pub least-slack-spec : {M : Type 1} → statement M
 least-slack-spec =
@@ -51,8 +54,9 @@ least-slack-spec =
     mul-smaller
     element-copy-out-smaller
     smaller-requires
+    returns
     add-next
     next-requires-2
     loop-less
     loop-again
-    returns)
+    returns-2)

@@ -11,10 +11,10 @@ use Rattle.matrix.proofs.rows.size.Statement.{statement}
 use Rattle.matrix.proofs.rows.size.Tie as tie
 
 abbrev Inv-loop : tie.InvT-loop
-Inv-loop set n₀ i₀ n i = (i ≤ 768) × (i < 768 → member set i ≡ true) × (n ≤ i) × (n ≡ count i (member set))
+Inv-loop set end n₀ i₀ n i = (i ≤ end) × (i < end → member set i ≡ true) × (n ≤ i) × (n ≡ count i (member set))
 
 abbrev μ-loop : tie.MeasureT-loop
-μ-loop set n₀ i₀ n i = 768 - i
+μ-loop set end n₀ i₀ n i = end - i
 
 next-requires : tie.Need-next-requires Inv-loop μ-loop
 next-requires c κs = search needs
@@ -42,8 +42,9 @@ loop-again c =
 
 returns : tie.Need-returns Inv-loop μ-loop
 returns c =
-    let e : c .before .loop .i ≡ 768 = omega arith in
-    c .before .loop .inv .3 ∙ ap (λ (x : ℕ). count x (member (c .before .before .before .args .set .now))) e
+    let a = c .before .before .before .args in
+    let e : c .before .loop .i ≡ a .end = omega arith in
+    c .before .loop .inv .3 ∙ ap (λ (x : ℕ). count x (member (a .set .now))) e
 
 pub size-spec : {M : Type 1} → statement M
 size-spec =

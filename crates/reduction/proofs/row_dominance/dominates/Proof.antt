@@ -8,11 +8,26 @@ use Rattle.reduction.proofs.Narrowing.{of-both}
 use Rattle.reduction.proofs.row_dominance.dominates.Statement.{statement}
 use Rattle.reduction.proofs.row_dominance.dominates.Tie as tie
 
+mul-both : tie.Need-mul-both
+mul-both c = search needs
+
+shared-slice-read-both : tie.Need-shared-slice-read-both
+shared-slice-read-both c = search needs
+
+both-requires : tie.Need-both-requires
+both-requires c κs = search needs
+
+mul-inside : tie.Need-mul-inside
+mul-inside c = search needs
+
+shared-slice-read-inside : tie.Need-shared-slice-read-inside
+shared-slice-read-inside c = search needs
+
+inside-requires : tie.Need-inside-requires
+inside-requires c κs = search needs
+
 returns : tie.Need-returns
 returns c = λ e. clash e refl
-
-has-requires : tie.Need-has-requires
-has-requires c κs = search needs
 
 returns-2 : tie.Need-returns-2
 returns-2 c = λ e. clash e refl
@@ -32,48 +47,32 @@ shared-slice-read-if3-2 c = search needs
 returns-3 : tie.Need-returns-3
 returns-3 c = λ e. clash e refl
 
-mul-both : tie.Need-mul-both
-mul-both c = search needs
-
-shared-slice-read-both : tie.Need-shared-slice-read-both
-shared-slice-read-both c = search needs
-
-both-requires : tie.Need-both-requires
-both-requires c κs = search needs
-
-mul-inside : tie.Need-mul-inside
-mul-inside c = search needs
-
-shared-slice-read-inside : tie.Need-shared-slice-read-inside
-shared-slice-read-inside c = search needs
-
-inside-requires : tie.Need-inside-requires
-inside-requires c κs = search needs
+has-requires : tie.Need-has-requires
+has-requires c κs = search needs
 
 returns-4 : tie.Need-returns-4
-returns-4 c = λ e. record {
-  other = c .before .before .before .before .before .before .before .before .before .if1 .left;
-  lives = sym (c .before .before .before .before .before .before .before .before .has .ensures) ∙ not-false _ (c .before .before .before .before .before .before .before .if2 .left);
-  light = omega (arith, c .before .before .before .before .if3 .left);
-  inside = λ x h k. c .inside .ensures e x (of-both (c .before .before .both .ensures x) k h);
-}
+returns-4 c = λ e. record
+    { other = c .before .before .before .before .if2 .left
+    ; lives = sym (c .has .ensures) ∙ e
+    ; light = omega (arith, c .before .if3 .left)
+    ; inside = λ x h k. c .before .before .before .before .before .before .inside .ensures (not-false _ (c .before .before .before .before .before .if1 .left)) x (of-both (c .before .before .before .before .before .before .before .before .both .ensures x) k h) }
 
 pub dominates-spec : {M : Type 1} → statement M
 dominates-spec =
     tie.close
     (tie.spec
-    returns
-    has-requires
-    returns-2
-    mul-if3
-    shared-slice-read-if3
-    mul-if3-2
-    shared-slice-read-if3-2
-    returns-3
     mul-both
     shared-slice-read-both
     both-requires
     mul-inside
     shared-slice-read-inside
     inside-requires
+    returns
+    returns-2
+    mul-if3
+    shared-slice-read-if3
+    mul-if3-2
+    shared-slice-read-if3-2
+    returns-3
+    has-requires
     returns-4)

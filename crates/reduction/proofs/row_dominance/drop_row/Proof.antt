@@ -24,8 +24,14 @@ returns c =
     let a = c .before .before .before .before .before .before .before .args in
     drop-useless (a .words .now) (a .weights .now) _ _ _ _ (c .without-row .ensures) _ (c .before .before .before .both .ensures) (c .before .before .is-empty .ensures .none (c .before .if1 .taken))
 
-candidates-requires : tie.Need-candidates-requires
-candidates-requires c κs = search needs
+next-requires : tie.Need-next-requires
+next-requires c κs = search needs
+
+mul-dominator : tie.Need-mul-dominator
+mul-dominator c = search needs
+
+index-1-dominator : tie.Need-index-1-dominator
+index-1-dominator c = search needs
 
 dominator-requires : tie.Need-dominator-requires
 dominator-requires c κs = search needs
@@ -51,7 +57,9 @@ drop-row-spec =
     is-empty-requires
     without-row-requires
     returns
-    candidates-requires
+    next-requires
+    mul-dominator
+    index-1-dominator
     dominator-requires
     without-row-requires-2
     returns-2

@@ -1,0 +1,2 @@
+-- What the search promises to C.
+pub mod Exported
