@@ -69,12 +69,12 @@ module _ (n : ℕ) (t : List ℕ) (c : Arrays) (h : IsChart n t c) where
 -- ---- what Chart promises
 
 module _ (c : Arrays) (list : List ChartRow) where
-  count-is : arrayRows c ≡ list → c .rows ≡ length list
+  count-is : {xs : List ChartRow} → arrayRows c ≡ xs → c .rows ≡ length xs
   count-is e = sym (length-first c (c .rows)) ∙ ap length e
 
   all-written : (k : ℕ) → arrayRows c ≡ toWrite k list → (old : List ChartRow) → upto c old (c .rows) ≡ written k list old
   all-written zero e old = ap₂ (λ (xs : List ChartRow) (m : ℕ). xs ++ drop m old) e (count-is e)
-  all-written (suc k) e old = ap₂ (λ (xs : List ChartRow) (m : ℕ). xs ++ drop m old) e (sym (length-first c (c .rows)) ∙ ap length e)
+  all-written (suc k) e old = ap₂ (λ (xs : List ChartRow) (m : ℕ). xs ++ drop m old) e (count-is e)
 
   all-counted : (k : ℕ) → arrayRows c ≡ toWrite k list → answered k (c .rows) ≡ answered k (length list)
   all-counted zero e = ap (answered 0) (count-is e)

@@ -70,6 +70,7 @@ fn prepare(n: usize, table: &[u8], places: usize) -> Prepared
     }
 }
 
+// The refusal, or how many rows there are.
 fn answer(prepared: Prepared) -> Counted
     ensures { λ r. ⌜ countAnswer r ≡ answered (prepared .refusal) (prepared .chart .rows) ⌝ }
 {

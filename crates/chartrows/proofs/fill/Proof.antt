@@ -53,7 +53,7 @@ use Rattle.chart.specs.declared.Arrays.{Arrays}
 use Rattle.chartrows.specs.Rows.{rowAt}
 use Rattle.chartrows.proofs.RowLists.{blank, upto, upto-none, length-upto, upto-more}
 use Rattle.chartrows.proofs.ChartRow as R
-use Rattle.chartrows.proofs.ChartRow.Laws as T′
+use Rattle.chartrows.proofs.ChartRow.Laws as R′
 use Rattle.chart.proofs.Arrays as B
 use Rattle.chart.proofs.Arrays.Laws as B′
 use Rattle.chartrows.proofs.row_at as row-at
@@ -84,7 +84,7 @@ stayed = (stay-slice (0 ∷ []) tt (plain (λ _. R.the-row)), (stay-none (λ _. 
 
 -- the machine values of a row and of the parallel arrays
 abbrev lows : ChartRow → List Val
-lows = LL.vals R.the-type T′.the-laws
+lows = LL.vals R.the-type R′.the-laws
 
 abbrev lowered : Arrays → Val
 lowered = LL.val B.the-type B′.the-laws
@@ -166,12 +166,12 @@ module _ {M : Type 1} (𝓤 : URA M) (H : Heap 𝓤) (A : Atoms 𝓤) (W : Given
     Λ = 𝓣 .Λ
 
     abbrev En : Env 𝓤 H
-    En = (tyUnit, l₀) ∷ (slice, l₁) ∷ (B′.mir, l₂) ∷ (tyInt w64, l₃) ∷ (tyBool, l₄) ∷ (T′.mir, l₅) ∷ (tyInt w64, l₆) ∷ (tyPtr, l₇) ∷ []
+    En = (tyUnit, l₀) ∷ (slice, l₁) ∷ (B′.mir, l₂) ∷ (tyInt w64, l₃) ∷ (tyBool, l₄) ∷ (R′.mir, l₅) ∷ (tyInt w64, l₆) ∷ (tyPtr, l₇) ∷ []
 
     -- [the rows; the open borrow; obs; auth; _7; …; _6; …; _5; …; _4; …; _3; …; _2; …; _1; …; room for _0; …]
     abbrev At : Upto → List (Item 𝓤)
     At i = ‵ (row R.the-row fullShare (done-to (i .0)) b o) ∷ ‵ (fobor κ q (Held R.the-row (length ys) b o γ)) ∷ ‵ (fobs γ (codedHoleys R.the-row .code (heres R.the-row ys))) ∷ ‵ (fauth γ (codedHoleys R.the-row .code (heres R.the-row ys)))
-        ∷ ‵ (froom tyPtr l₇ 0) ∷ ‵ (fdies tyPtr l₇) ∷ ‵ (froom (tyInt w64) l₆ 0) ∷ ‵ (fdies (tyInt w64) l₆) ∷ ‵ (froom T′.mir l₅ 0) ∷ ‵ (fdies T′.mir l₅) ∷ ‵ (froom tyBool l₄ 0) ∷ ‵ (fdies tyBool l₄)
+        ∷ ‵ (froom tyPtr l₇ 0) ∷ ‵ (fdies tyPtr l₇) ∷ ‵ (froom (tyInt w64) l₆ 0) ∷ ‵ (fdies (tyInt w64) l₆) ∷ ‵ (froom R′.mir l₅ 0) ∷ ‵ (fdies R′.mir l₅) ∷ ‵ (froom tyBool l₄ 0) ∷ ‵ (fdies tyBool l₄)
         ∷ ‵ (fat fullShare (tyInt w64) l₃ 0 (vint w64 (i .0))) ∷ ‵ (fdies (tyInt w64) l₃) ∷ ‵ (fat fullShare B′.mir l₂ 0 (lowered c)) ∷ ‵ (fdies B′.mir l₂)
         ∷ ‵ (fat fullShare slice l₁ 0 s) ∷ ‵ (fdies slice l₁) ∷ ‵ (froom tyUnit l₀ 0) ∷ ‵ (fdies tyUnit l₀) ∷ []
 
@@ -194,8 +194,8 @@ module _ {M : Type 1} (𝓤 : URA M) (H : Heap 𝓤) (A : Atoms 𝓤) (W : Given
         assigns ! (bin ! (load ! (from ! (stop !)) (look ! 13 refl)) (lit ! tt) (record { fits = at-fits less })) (from ! (stop !)) (init ! 7 refl (tt, record { fits = at-fits less })) $
         assigns ! (bin ! (load ! (from ! (fld ! refl (stop !))) (look-in ! 17 (sub ! 0 refl (whole !)))) (load ! (from ! (stop !)) (look ! 7 refl)) tt) (from ! (stop !)) (init ! 5 refl (tt, tt)) $
         rewrite ! 5 (λ (p : ℕ). ‵ (fat fullShare tyPtr l₇ 0 (vptr b p))) (sym (place-is 24 o (i .0))) refl $ move ! (1 ∷ []) $
-        elem-out ! R.the-row (Is R.the-row) (shows 𝓤 H A R.the-row) lows (LL.tells R.the-type T′.the-laws) fullShare (done-to (i .0)) (i .0) blank b o (there less) (λ _.
-        -- [out[i]; what it owns; the others; what the row owns; the open borrow; obs; auth; _7; …; _6; …; _5; …]
+        elem-out ! R.the-row (Is R.the-row) (shows 𝓤 H A R.the-row) lows (LL.tells R.the-type R′.the-laws) fullShare (done-to (i .0)) (i .0) blank b o (there less) (λ _.
+        -- [rows[i]; what it owns; the others; what the row owns; the open borrow; obs; auth; _7; …; _6; …; _5; …]
         assigns ! (of-opd ! (load ! (from ! (stop !)) (look ! 11 refl))) (from ! (hop ! (look ! 7 refl) (stop !))) (store-raw ! 0 refl (typed is)) $
         move ! (1 ∷ []) $ drop ! $ move ! (0 ∷ 2 ∷ 1 ∷ []) $ elem-put ! R.the-row fullShare (done-to (i .0)) (i .0) (rowAt c (i .0)) (w ∷ []) b o (there less) $
         rewrite ! 0 (λ (l : List ChartRow). ‵ (row R.the-row fullShare l b o)) (upto-more c ys (i .0) (lt-of-lt-of-le (ltb→lt (i .0) n less) within)) refl $
@@ -210,8 +210,8 @@ module _ {M : Type 1} (𝓤 : URA M) (H : Heap 𝓤) (A : Atoms 𝓤) (W : Given
         move ! (17 ∷ 18 ∷ []) $ free1 ! $ move ! (15 ∷ 16 ∷ []) $ free1 ! $ move ! (13 ∷ 14 ∷ []) $ free1 ! $ move ! (11 ∷ 12 ∷ []) $ free1 ! $ move ! (9 ∷ 10 ∷ []) $ free1 ! $ move ! (7 ∷ 8 ∷ []) $ free1 ! $ move ! (5 ∷ 6 ∷ []) $ free1 ! $ move ! (3 ∷ 4 ∷ []) $ free1 ! $ free0 ! $
         keep ! (0 ∷ 1 ∷ 2 ∷ []) $ by ! exits)
       where
-        typed : {w : Val} → Is R.the-row (rowAt c (i .0)) (w ∷ []) → T (hasTy T′.mir w) × WT w
-        typed is = LL.lawful R.the-type T′.the-laws 𝓤 H A W .typed (rowAt c (i .0)) _ is .0
+        typed : {w : Val} → Is R.the-row (rowAt c (i .0)) (w ∷ []) → T (hasTy R′.mir w) × WT w
+        typed is = LL.lawful R.the-type R′.the-laws 𝓤 H A W .typed (rowAt c (i .0)) _ is .0
 
         fits : (j : Upto) → j .0 < 2 ^ 64
         fits j = omega (arith, j .1, small)
@@ -236,7 +236,7 @@ module _ {M : Type 1} (𝓤 : URA M) (H : Heap 𝓤) (A : Atoms 𝓤) (W : Given
       assigns ! (of-opd ! (lit ! tt)) (from ! (stop !)) (init ! 8 refl (tt, record { fits = lit< tt })) $
       move ! (17 ∷ []) $ fsplit ! $ fsplit ! $ move ! (1 ∷ []) $ fsplit ! $ move ! (20 ∷ []) $ split ! $ move ! (2 ∷ 3 ∷ 0 ∷ []) $
       opens-slice ! tt R.the-row ys b o $ rewrite ! 0 (λ (l : List ChartRow). ‵ (row R.the-row fullShare l b o)) (sym (upto-none c ys)) refl $
-      -- [the rows; the open borrow; obs; auth; true; out's fact; the others'; _7; …]
+      -- [the rows; the open borrow; obs; auth; true; what says where the slice is; what the arrays own; _7; …]
       keep ! (0 ∷ 1 ∷ 2 ∷ 3 ∷ 7 ∷ 8 ∷ 9 ∷ 10 ∷ 11 ∷ 12 ∷ 13 ∷ 14 ∷ 15 ∷ 16 ∷ 17 ∷ 18 ∷ 19 ∷ 20 ∷ 21 ∷ 22 ∷ []) $
       looped 𝓣 known l₀ l₁ l₂ l₃ l₄ l₅ l₆ l₇))))))))
 
