@@ -1,7 +1,6 @@
 -- The chosen list: the cubes of the picked rows are those of a shortest list, and its counts are read off the weight. Assumes nothing.
 use mathlib.Core.Path.{_≡_, refl, sym, ap, ap₂, _∙_, subst, subst⁻¹}
-use mathlib.Core.Logic.{_⊎_, inl, inr}
-use mathlib.Core.Bool.{Bool, true, false, _&&_, cond}
+use mathlib.Core.Bool.{Bool, _&&_, cond}
 use mathlib.Core.List.{List, [], _∷_, _++_, map}
 use Prim.Native.Nat.{ℕ, zero, suc, _+_, _*_, _-_, _^_, _<_, _≤_}
 use native.Mathlib.Nat.{mul-le-mul-left}
@@ -30,7 +29,7 @@ use Rattle.chart.proofs.Words.{has-word}
 use Rattle.plan.specs.Plan.{rowWeight, rowsOfCubes, Lightest, ascendsFrom, ascending, Chosen}
 use Rattle.search.specs.Search.{Coverable}
 use Rattle.search.specs.declared.Answer.{Answer}
-use Rattle.plan.proofs.Selections.{ChartOf, ChartRow, cubeAt, listOf, list-weight, minimum-list, coverable, cubes-below, ascending-list}
+use Rattle.plan.proofs.Selections.{ChartOf, cubeAt, listOf, list-weight, minimum-list, coverable, cubes-below, ascending-list}
 
 -- the selection of a set of rows is the list of those in the set
 rows-those : (m : ℕ) (p : ℕ → Bool) → rowsOf m p ≡ those m p

@@ -1,5 +1,5 @@
 -- How Plan ends: it refuses and leaves both arrays as they were, or writes the chosen list. Assumes nothing.
-use mathlib.Core.Path.{_≡_, refl, sym, ap, ap₂, _∙_, subst, subst⁻¹}
+use mathlib.Core.Path.{_≡_, refl, sym, ap, ap₂, _∙_, subst⁻¹}
 use mathlib.Core.List.{List, [], _∷_, map, map-map}
 use Prim.Native.Nat.{ℕ, zero, suc, _^_, _<_, _≤_}
 use native.Mathlib.Omega.{arith}
@@ -7,12 +7,12 @@ use lib.Dec.{T}
 use lib.ListN.{length, length-map, take, getD}
 use lib.Seq.{sets, getD-take}
 use borrow.Table.Elements.{length-take-le}
-use Rattle.cube.specs.Words.{Cover, rowOf, numberOf, valueOf, careOf, coverLiterals}
-use Rattle.cube.specs.Calls.{Answer, gives, answered, written}
+use Rattle.cube.specs.Words.{Cover, rowOf, numberOf, valueOf, careOf}
+use Rattle.cube.specs.Calls.{gives, answered, written}
 use Rattle.cube.proofs.Rows.{number-of-row}
 use Rattle.cube.proofs.Lent.{sets-front}
 use Rattle.cube.proofs.Minimum.{minimum-rows}
-use Rattle.plan.specs.Plan.{planRefuses, Totals, totalsOf, ascending, valuesOf, caresOf, Plans, rowsOfCubes, Chosen}
+use Rattle.plan.specs.Plan.{planRefuses, totalsOf, ascending, Plans, rowsOfCubes, Chosen}
 use Rattle.plan.specs.declared.Planned.the-variants.{Rows, Refused}
 use Rattle.plan.proofs.Refusals.{Plannable, plannable}
 

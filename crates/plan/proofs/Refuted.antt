@@ -1,14 +1,13 @@
 -- What Plan's promise leaves open of the counts: nothing. On each of the cases a to j the answer is the case's rows and bits, whatever the arrays held,
 -- and so wrong answers are shut out, each on a named case. Assumes nothing.
-use mathlib.Core.Path.{_≡_, refl, ap, ap₂, _∙_}
-use mathlib.Core.List.{List, [], _∷_}
-use Prim.Native.Nat.{ℕ, zero, suc}
+use mathlib.Core.Path.{_≡_, refl, sym, ap, ap₂, _∙_}
+use mathlib.Core.List.{List}
+use Prim.Native.Nat.{ℕ}
 use native.Mathlib.Omega.{arith}
 use lib.ListN.{length}
 use Rattle.cube.specs.Below.{some, run}
-use Rattle.cube.specs.Words.{coverLiterals}
 use Rattle.cube.specs.Calls.{badCell, Answer, gives, refuses, answered}
-use Rattle.cube.specs.Cases.{Case, tableOf, Holds, case-b, case-e, case-f, case-g, case-j, cases}
+use Rattle.cube.specs.Cases.{Case, tableOf, Holds, case-a, case-b, case-e, case-f, case-g, case-j, cases}
 use Rattle.cube.proofs.Cases.{all-cases}
 use Rattle.cube.proofs.Minimum.{shortest}
 use Rattle.plan.specs.Plan.{planRefuses, Totals, totalsOf, planAnswer, Plans}
@@ -75,6 +74,17 @@ module _ (values cares values′ cares′ : List ℕ) where
   pub one-bit-off : planRefuses 3 (tableOf case-e) (length values) (length cares) ≡ 0 → Plans 3 (tableOf case-e) values cares values′ cares′ (Rows 3 7) → ⊥
   unfolding cases
   one-bit-off e = other-bits case-e (all-cases .1 .1 .1 .1 .0) values cares values′ cares′ e 3 7 (λ z. omega arith)
+
+-- one fixed list: the same answer on a and on b
+pub one-fixed-answer : (values cares values′ cares′ : List ℕ) (r : Planned) → planRefuses 1 (tableOf case-a) (length values) (length cares) ≡ 0
+    → planRefuses 1 (tableOf case-b) (length values) (length cares) ≡ 0 → Plans 1 (tableOf case-a) values cares values′ cares′ r
+    → Plans 1 (tableOf case-b) values cares values′ cares′ r → ⊥
+unfolding cases
+one-fixed-answer values cares values′ cares′ r d e p q =
+    let on-a = answer-on case-a (all-cases .0) values cares values′ cares′ r d p in
+    let on-b = answer-on case-b (all-cases .1 .0) values cares values′ cares′ r e q in
+    let z : _≡_ {A = ℕ} 0 1 = ap rowsIn (sym on-a ∙ on-b) in
+    omega arith
 
 -- 4 with 64 places in each array, at width 6 with nothing wanted
 pub four-with-64-places : (values cares values′ cares′ : List ℕ) → length values ≡ 64 → length cares ≡ 64

@@ -1,8 +1,8 @@
 -- From the minimum cover of the chart to a shortest list. Each row of a rival lies within a prime that tests no more bits, so the rival gives a selection
 -- of chart rows that covers every wanted code and weighs no more; the minimum selection weighs least, and the weight orders lists. Assumes nothing.
-use mathlib.Core.Path.{_≡_, refl, sym, ap, ap₂, _∙_, subst, subst⁻¹}
+use mathlib.Core.Path.{_≡_, refl, sym, ap, _∙_, subst, subst⁻¹}
 use mathlib.Core.Logic.{_⊎_, inl, inr, ⊎-elim}
-use mathlib.Core.Bool.{Bool, true, false, _&&_, _||_}
+use mathlib.Core.Bool.{_&&_}
 use mathlib.Core.List.{List, [], _∷_, map}
 use Prim.Native.Nat.{ℕ, zero, suc, _+_, _*_, _^_, _<_, _≤_}
 use native.Mathlib.Nat.{not-suc-le-zero, le-of-suc-le-suc}
@@ -16,10 +16,10 @@ use Rattle.cube.proofs.Below.{those-at, those-ascend, those-place}
 use Rattle.cube.proofs.Digits.{contained-matches, contained-literals}
 use Rattle.cube.proofs.Implicants.{implicant-at, prime-implicant, prime-above}
 use Rattle.cube.proofs.Rows.{cube-lt, row-is-cube, row-literals, row-formed, row-of-matches, row-of-literals}
-use Rattle.cube.proofs.Theorems.{implements-on, implements-off, implements-by}
+use Rattle.cube.proofs.Theorems.{implements-on, implements-by}
 use Rattle.cube.proofs.Independent.{sound, rows-sound}
 use Rattle.cube.proofs.Covers.{literals-most, code-by-code}
-use Rattle.covering.specs.Cover.{Within, Hits, Covers, weight, Minimum}
+use Rattle.covering.specs.Cover.{Within, Hits, weight, Minimum}
 use Rattle.matrix.specs.Sets.{has, In}
 use Rattle.matrix.specs.Matrix.{covers, weightOf}
 use Rattle.chart.specs.Columns.{column, columnsOf}

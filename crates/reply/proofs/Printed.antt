@@ -1,20 +1,20 @@
 -- What is printed is what `text` defines: for a table by Plan's answer, for a state by what was kept, and for a whole input. Assumes nothing.
-use mathlib.Core.Path.{_≡_, refl, sym, ap, ap₂, _∙_, subst, subst⁻¹}
-use mathlib.Core.List.{List, [], _∷_, _++_, map}
+use mathlib.Core.Path.{_≡_, refl, sym, ap, ap₂, _∙_, subst}
+use mathlib.Core.List.{List, [], _∷_, _++_}
 use Prim.Native.Nat.{ℕ, zero, suc, _≤_}
 use native.Mathlib.Omega.{arith}
 use lib.ListN.{length, length-append, length-map, take, drop}
 use lib.Seq.{take-append-seam}
-use Rattle.cube.specs.Words.{Row, Cover, coverLiterals, rowsOf}
-use Rattle.cube.specs.Calls.{widest, firstOf, tableConditions, Answer, refuses, gives, written}
+use Rattle.cube.specs.Words.{Cover, rowsOf}
+use Rattle.cube.specs.Calls.{firstOf, tableConditions, Answer, refuses, gives, written}
 use Rattle.cube.proofs.Calls.{accepted, codes-most}
 use Rattle.cube.proofs.Minimum.{minimum-rows}
 use Rattle.plan.specs.Plan.{planRefuses, valuesOf, caresOf, Plans}
 use Rattle.plan.specs.declared.Planned.the-variants.{Rows, Refused}
 use Rattle.plan.proofs.Refusals.{refuses-table, refuses-none}
 use Rattle.plan.proofs.Answers.{not-refused, rows-is, bits-is, accepted-refused, refused-by}
-use Rattle.text.specs.Input.{Table, read, kept, keep, State, atStart, fed, closed}
-use Rattle.text.specs.Output.{mostOutput, refused, listed, planned, printed, outputOf}
+use Rattle.text.specs.Input.{Table, kept, keep, State, atStart, fed, closed}
+use Rattle.text.specs.Output.{mostOutput, refused, listed, planned, printed}
 use Rattle.text.specs.Reading.{stateOf}
 use Rattle.text.specs.Printing.{firstRows, Printable, Prints}
 use Rattle.text.specs.declared.input.Reading.{Reading}

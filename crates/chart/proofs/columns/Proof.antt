@@ -2,12 +2,11 @@
 use mathlib.Core.Path.{_≡_, ap, ap₂, _∙_}
 use mathlib.Core.Bool.{Bool, _&&_}
 use mathlib.Core.List.{List}
-use Prim.Native.Nat.{ℕ, _^_, _<_, _≤_}
+use Prim.Native.Nat.{ℕ, _^_, _<_}
 use native.Mathlib.Omega.{arith}
 use lib.ListN.{length}
 use borrow.Author.Needs.{needs}
 use Rattle.cube.specs.Words.{onSet, valueOf, careOf}
-use Rattle.cube.specs.Calls.{widest}
 use Rattle.cube.proofs.Calls.{codes-most}
 use Rattle.cube.proofs.Rows.{row-of-matches}
 use Rattle.chart.specs.Columns.{wordOf, column, columnsOf, rowColumn}

@@ -2,7 +2,7 @@
 use mathlib.Core.Path.{_≡_, sym, ap, _∙_}
 use mathlib.Core.Bool.{Bool, false, _&&_}
 use mathlib.Core.List.{List}
-use Prim.Native.Nat.{ℕ, suc, _+_, _*_, _^_, _%_, _<_}
+use Prim.Native.Nat.{ℕ, _+_, _*_, _^_, _%_, _<_}
 use native.Mathlib.Nat.{pow-suc}
 use native.Mathlib.Omega.{arith}
 use lib.Bits.{bitAnd}
@@ -12,7 +12,7 @@ use lib.Pow.{pow-mono, shl-exact}
 use borrow.Author.Needs.{needs}
 use borrow.Author.Tests.{eq-eqb, ne-eqb}
 use Rattle.cube.specs.Below.{flag}
-use Rattle.cube.specs.Words.{onSet, rowMatches}
+use Rattle.cube.specs.Words.{rowMatches}
 use Rattle.chart.specs.Columns.{rowColumn}
 use Rattle.chart.proofs.with_code.Statement.{statement}
 use Rattle.chart.proofs.with_code.Tie as tie

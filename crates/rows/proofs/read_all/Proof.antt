@@ -6,7 +6,6 @@ use native.Mathlib.Omega.{arith}
 use lib.ListN.{length}
 use borrow.Author.Needs.{needs}
 use Rattle.text.specs.Reading.{Room}
-use Rattle.text.specs.declared.input.Reading.{Reading}
 use Rattle.rows.specs.Rows.{Turned, reached}
 use Rattle.rows.specs.declared.Turn.{Turn}
 use Rattle.rows.proofs.read_all.Statement.{statement}
