@@ -1,0 +1,84 @@
+/* Runs the search on the covering problems of standard input and writes a line for each: number, rows, weight, nodes, depth of calls, microseconds. With an
+ * argument it does so on a painted stack, and a last line says how many bytes of it were overwritten.
+ *
+ * A problem is written in hexadecimal: the number of rows, the set of columns, and for each row its set of columns and its weight. */
+#include <ctype.h>
+#include <inttypes.h>
+#include <pthread.h>
+#include <stdio.h>
+#include <stdlib.h>
+#include <string.h>
+#include <time.h>
+
+#define MOST_ROWS 768
+#define STACK ((size_t)8 << 20)
+#define PAINT 0xa5
+
+uint64_t minimum_cover(const uint64_t *words, size_t rows, const uint32_t *weights, size_t same, uint64_t columns, uint64_t *effort);
+
+static double microseconds(void) {
+    struct timespec now;
+    clock_gettime(CLOCK_MONOTONIC, &now);
+    return now.tv_sec * 1e6 + now.tv_nsec / 1e3;
+}
+
+/* The next number of standard input; whether there is one. */
+static int number(uint64_t *value) {
+    int byte = getchar_unlocked();
+    while (byte != EOF && !isxdigit(byte))
+        byte = getchar_unlocked();
+    if (byte == EOF)
+        return 0;
+    for (*value = 0; isxdigit(byte); byte = getchar_unlocked())
+        *value = *value * 16 + (byte <= '9' ? byte - '0' : byte - 'a' + 10);
+    return 1;
+}
+
+static void *solve_all(void *unused) {
+    static uint64_t words[MOST_ROWS];
+    static uint32_t weights[MOST_ROWS];
+    uint64_t rows, columns, weight;
+    for (int problem = 0; number(&rows) && number(&columns); problem++) {
+        if (rows > MOST_ROWS) {
+            fprintf(stderr, "problem %d has %" PRIu64 " rows\n", problem, rows);
+            exit(1);
+        }
+        for (size_t i = 0; i < rows; i++) {
+            if (!number(&words[i]) || !number(&weight)) {
+                fprintf(stderr, "problem %d ends early\n", problem);
+                exit(1);
+            }
+            weights[i] = weight;
+        }
+        uint64_t effort[2] = {0, 0};
+        double start = microseconds();
+        weight = minimum_cover(words, rows, weights, rows, columns, effort);
+        double took = microseconds() - start;
+        printf("%d %" PRIu64 " %" PRIu64 " %" PRIu64 " %" PRIu64 " %.1f\n", problem, rows, weight, effort[0], effort[1], took);
+    }
+    return unused;
+}
+
+int main(int count, char **words) {
+    (void)words;
+    if (count == 1) {
+        solve_all(NULL);
+        return 0;
+    }
+    unsigned char *stack;
+    if (posix_memalign((void **)&stack, 4096, STACK))
+        return 1;
+    memset(stack, PAINT, STACK);
+    pthread_attr_t attributes;
+    pthread_t thread;
+    pthread_attr_init(&attributes);
+    pthread_attr_setstack(&attributes, stack, STACK);
+    if (pthread_create(&thread, &attributes, solve_all, NULL))
+        return 1;
+    pthread_join(thread, NULL);
+    size_t left = 0;
+    while (left < STACK && stack[left] == PAINT)
+        left++;
+    printf("stack %zu\n", STACK - left);
+    return 0;
+}
