@@ -1,1 +1,3 @@
--- The proofs of the program.
+-- What the answer of a read says, and what the pieces make up.
+pub mod Answers
+pub mod Pieces

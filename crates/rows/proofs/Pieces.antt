@@ -1,0 +1,35 @@
+-- Piece by piece: where a state is that behind the pieces so far, one turn more leads to the state behind these and the next. Assumes nothing.
+use mathlib.Core.Path.{_≡_, refl, sym, ap, subst, _∙_}
+use mathlib.Core.List.{List, [], _∷_, _++_}
+use Prim.Native.Nat.{ℕ, _≤_}
+use native.Mathlib.Omega.{arith}
+use lib.IntN.{ℤ, pos, negsuc}
+use lib.ListN.{length, take}
+use Rattle.text.specs.Input.{mostCells, State, atStart, wrong, fed}
+use Rattle.text.specs.Reading.{stateOf}
+use Rattle.text.specs.declared.input.Reading.{Reading}
+use Rattle.text.specs.declared.input.Reading.the-variants.{Start, Wrong}
+use Rattle.text.proofs.Stepping.{fed-append}
+use Rattle.rows.specs.Rows.{reached, behind, Turned, ReadAll}
+use Rattle.rows.specs.declared.Turn.{Turn}
+
+pub read-none : (cells : List ℕ) → mostCells ≤ length cells → ReadAll Start cells
+unfolding fed
+read-none cells l = record { input = []; state = refl; room = record { places = l; most = omega arith } }
+
+-- a text that is not in form, for what cannot be read
+pub read-wrong : (cells : List ℕ) → mostCells ≤ length cells → ReadAll Wrong cells
+unfolding fed
+read-wrong cells l = record { input = 0 ∷ []; state = refl; room = record { places = l; most = omega arith } }
+
+pub read-more : (reading : Reading) (old : List ℕ) (got : ℤ) (piece : List ℕ) (t v : Turn) (new : List ℕ) → t ≡ v → Turned reading old got piece t new → ReadAll reading old → ReadAll (reached v) new
+unfolding fed
+read-more reading old got piece t v new e turned before = subst (λ (x : Turn). ReadAll (reached x) new) e (go got (turned .state))
+  where
+    go : (z : ℤ) → stateOf (reached t) new ≡ behind (stateOf reading old) z piece → ReadAll (reached t) new
+    go (pos k) s = record {
+      input = before .input ++ take k piece;
+      state = s ∙ ap (λ (x : State). fed x (take k piece)) (before .state) ∙ sym (fed-append atStart (before .input) (take k piece));
+      room = turned .room;
+    }
+    go (negsuc k) s = record { input = 0 ∷ []; state = s; room = turned .room }
