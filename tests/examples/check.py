@@ -1,5 +1,5 @@
 #!/usr/bin/env python3
-"""Computes again what each line of examples.txt says, by brute force, and says which lines differ.
+"""Computes again what each line of examples.txt says, by brute force, and says where the line or what the program `examples` prints differs.
 
     python3 check.py            all examples
     python3 check.py NAME..     what is computed of these: primes, essential ones marked *, and the counts
@@ -82,11 +82,28 @@ def compute(width, table):
     return all_primes, essentials(found, all_primes, wanted), shortest(found, wanted)
 
 
+def listing(title, cubes):
+    """A list of cubes as the program prints it."""
+    return '  %s %d:%s' % (title, len(cubes), ''.join(' ' + cube for cube in cubes))
+
+
+def printed(path):
+    """The lines that the program prints below each name. Its output is held to this file whenever it is proved."""
+    sections, name = {}, None
+    for line in open(path).read().splitlines():
+        if not line.startswith(' '):
+            name = line
+        else:
+            sections.setdefault(name, []).append(line)
+    return sections
+
+
 def main(names):
     here = os.path.dirname(os.path.abspath(__file__))
-    lines = [line.split() for line in open(os.path.join(here, 'examples.txt')) if line.strip() and line[0] != '#']
+    program = printed(os.path.join(here, '../../crates/examples/stdout'))
+    examples = [line.split() for line in open(os.path.join(here, 'examples.txt')) if line.strip() and line[0] != '#']
     done = wrong = 0
-    for name, width, table, *said in lines:
+    for name, width, table, *said in examples:
         if names and name not in names:
             continue
         assert len(table) == 2 ** int(width) and set(table) <= set('01-'), name
@@ -95,9 +112,13 @@ def main(names):
         counts = [len(all_primes), len(essential), rows, tested]
         if names:
             print(name, *(q + '*' * (q in essential) for q in all_primes), *counts)
+        lines = [listing('primes', all_primes), listing('essentials', essential), '  plan rows %d bits %d' % (rows, tested)]
         if counts != [int(x) for x in said]:
             wrong += 1
             print(name, 'says', *said, 'and is', *counts)
+        elif program.get(name, [])[:3] != lines:
+            wrong += 1
+            print(name, 'is printed as', *program.get(name, []), 'and is', *lines)
     print('%d passed, %d failed' % (done - wrong, wrong))
     return 1 if wrong or not done else 0
 

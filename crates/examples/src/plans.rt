@@ -48,6 +48,9 @@ pub fn plan_of(n: usize, table: &[u8], cells: usize, values_places: usize, cares
 // A table of so many cells, the last of which is given.
 fn edge(n: usize, cells: usize, last: u8, values_places: usize, cares_places: usize) {
     crate::terms::edge_title(n, cells, last, values_places);
+    crate::print::text(b"  and places ");
+    crate::print::number(cares_places);
+    crate::print::line_end();
     let mut table = [1u8; 65];
     crate::terms::set_last(&mut table, cells, last);
     plan_of(n, &table, cells, values_places, cares_places);

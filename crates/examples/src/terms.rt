@@ -108,12 +108,17 @@ pub fn set_last(table: &mut [u8], cells: usize, last: u8) {
     table[cells - 1] = last;
 }
 
-fn first_place(space: &[u16]) {
-    if space.len() < 1 {
-        return;
+// The places that hold no 9 any more.
+fn changed(space: &[u16]) {
+    crate::print::text(b"  places changed");
+    let mut i = 0;
+    while i < space.len() {
+        if space[i] != 9 {
+            crate::print::space();
+            crate::print::number(i);
+        }
+        i += 1;
     }
-    crate::print::text(b"  first place ");
-    crate::print::number(space[0] as usize);
     crate::print::line_end();
 }
 
@@ -136,14 +141,17 @@ fn edge(n: usize, cells: usize, last: u8, places: usize) {
     set_last(&mut table, cells, last);
     let mut space = [9u16; 729];
     both_of(n, &table, cells, &mut space, places);
-    first_place(&space);
+    changed(&space);
 }
 
-pub fn run() {
+fn document_01() {
     example(b"01-a", 1, b"00");
     example(b"01-b", 1, b"11");
     example(b"01-c", 2, b"0-01");
     example(b"01-d", 2, b"100-");
+}
+
+fn document_000() {
     example(b"000-table-I", 3, b"01111110");
     example(b"000-section-2", 4, b"0000000101101111");
     example(b"000-example-3.1", 4, b"0001000111001100");
@@ -158,10 +166,16 @@ pub fn run() {
     example(b"000-table-XII", 4, b"1001111110110000");
     example(b"000-table-XIV", 4, b"000001100-0001-0");
     example(b"000-section-11", 3, b"01010011");
+}
+
+fn document_001() {
     example(b"001-first-example", 4, b"1100000011100000");
     example(b"001-example-1", 4, b"0111101111011110");
     example(b"001-example-2", 4, b"1111101111010001");
     example(b"001-example-3", 4, b"0111001100111111");
+}
+
+fn documents_002_and_003() {
     example(
         b"002-table-1",
         6,
@@ -178,6 +192,9 @@ pub fn run() {
         b"011-1-01011101--00111000-10--1101011010000110-10001-01110-100110",
     );
     example(b"003-table-8.17", 4, b"1111011010010000");
+}
+
+fn edges() {
     edge(0, 1, 1, 729);
     edge(1, 2, 1, 3);
     edge(1, 2, 1, 2);
@@ -191,4 +208,12 @@ pub fn run() {
     edge(6, 64, 1, 728);
     edge(7, 64, 1, 729);
     edge(18446744073709551615, 65, 255, 0);
+}
+
+pub fn run() {
+    document_01();
+    document_000();
+    document_001();
+    documents_002_and_003();
+    edges();
 }

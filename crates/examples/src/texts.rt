@@ -29,8 +29,8 @@ fn said(answer: Text, cells: &[u8]) {
 
 fn shown(input: &[u8]) {
     let mut cells = [0u8; MOST_CELLS];
-    let answer = text::input::read(input, &mut cells);
-    said(answer, &cells);
+    let all = text::input::feed(Reading::Start, &mut cells, input);
+    said(text::input::close(all), &cells);
 }
 
 // A whole text.
@@ -181,6 +181,20 @@ fn refusals() {
     refusal(255);
 }
 
+// What the program prints for a text.
+fn replied(input: &[u8]) {
+    let mut out = [0u8; MOST_OUTPUT];
+    let length = reply::whole(input, &mut out);
+    crate::print::text(&out[..length]);
+}
+
+fn replies() {
+    replied(b"4\n0000000101101111\n");
+    replied(b"2\n0110\n");
+    replied(b"2\n011\n");
+    replied(b"2\n0 11\n");
+}
+
 pub fn run() {
     in_form();
     widths();
@@ -192,4 +206,5 @@ pub fn run() {
     lists();
     most_rows();
     refusals();
+    replies();
 }

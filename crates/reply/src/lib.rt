@@ -2,11 +2,11 @@
 //
 //     reply::reply(input::feed(Reading::Start, &mut cells, b"2\n0111\n"), &cells, &mut out)     // 1-, -1, rows 2 bits 2
 use plan::Planned;
+use text::input::MOST_CELLS;
 use text::input::Reading;
 use text::input::Text;
 ghost use Prim.Native.Nat.{_≤_};
 ghost use lib.ListN.{length};
-ghost use Rattle.text.specs.Input.{mostCells};
 ghost use Rattle.text.specs.Output.{mostOutput};
 ghost use Rattle.text.specs.Reading.{Room};
 ghost use Rattle.reply.specs.Reply.{PrintsTable, PrintsState, PrintsInput};
@@ -40,7 +40,7 @@ pub fn whole(input: &[u8], out: &mut [u8]) -> usize
     requires { ⌜ mostOutput ≤ length (now out) ⌝ }
     ensures { λ r. ⌜ PrintsInput (now (input .entry)) (now (out .entry)) (now (out .exit)) r ⌝ }
 {
-    let mut cells = [0u8; 65];
+    let mut cells = [0u8; MOST_CELLS];
     let reading = text::input::feed(Reading::Start, &mut cells, input);
     reply(reading, &cells, out)
 }

@@ -4,7 +4,7 @@ use Prim.Native.Nat.{ℕ, _≤_}
 use mathlib.Core.List.{List}
 use lib.ListN.{length, take, drop}
 use Rattle.cube.specs.Calls.{Answer, refuses, gives}
-use Rattle.text.specs.Input.{Table, read, mostCells, kept, State, atStart, afterDigit, inRun, atEnd, wrong, fed, closed}
+use Rattle.text.specs.Input.{Table, mostCells, State, atStart, afterDigit, inRun, atEnd, wrong, fed, closed}
 use Rattle.text.specs.declared.input.Reading.{Reading}
 use Rattle.text.specs.declared.input.Reading.the-variants.{Start, Width, Run, End, Wrong}
 use Rattle.text.specs.declared.input.Text.{Text}
@@ -51,9 +51,3 @@ counted (text.Refused k) = 0
 pub record Closes (reading : Reading) (r : Text) : Type 0 where
   pub answer : (cells : List ℕ) → textAnswer r cells ≡ closed (stateOf reading cells)
   pub count : counted r ≤ cellsKept reading
-
--- a whole text is read: the answer is the definition's over the whole input, of whose cells those to be kept are kept
-pub record Says (input old new : List ℕ) (r : Text) : Type 0 where
-  pub answer : textAnswer r new ≡ kept (read input)
-  pub count : counted r ≤ mostCells
-  pub rest : drop mostCells new ≡ drop mostCells old

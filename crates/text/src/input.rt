@@ -5,13 +5,15 @@
 //     let some = feed(Reading::Start, &mut cells, b"2\n01");
 //     let all = feed(some, &mut cells, b"11\n");
 //     close(all)      // width 2, and 4 cells in the buffer: 0 1 1 1
+//
+// The buffer is working memory: nothing is refused before the text is closed, and a text that is not in form may have left cells in it.
 ghost use mathlib.Core.Path.{_≡_};
 ghost use mathlib.Core.List.{List, [], _∷_};
 ghost use Prim.Native.Nat.{ℕ, _≤_};
 ghost use lib.ListN.{length};
 ghost use Rattle.text.specs.Input.{mostCells};
 ghost use Rattle.text.specs.Input.{cellOf as cellOfByte};
-ghost use Rattle.text.specs.Reading.{Room, Takes, Closes, Says};
+ghost use Rattle.text.specs.Reading.{Room, Takes, Closes};
 
 // One cell more than the widest table has.
 pub const MOST_CELLS: usize = 65;
@@ -127,12 +129,4 @@ pub fn close(reading: Reading) -> Text
         Reading::End(n, count) => Text::Table(n, count),
         _ => Text::Refused(9),
     }
-}
-
-// A whole text.
-pub fn read(input: &[u8], cells: &mut [u8]) -> Text
-    requires { ⌜ mostCells ≤ length (now cells) ⌝ }
-    ensures { λ r. ⌜ Says (now (input .entry)) (now (cells .entry)) (now (cells .exit)) r ⌝ }
-{
-    close(feed(Reading::Start, cells, input))
 }
