@@ -18,6 +18,9 @@ import subprocess
 import sys
 import time
 
+sys.path.insert(0, "tests")
+import charts
+
 TABLES = "tests/tables/hard6.txt"
 OUT = "target/bench"
 PROBLEM = OUT + "/problem.lp"
@@ -50,21 +53,9 @@ def prepare(quick):
     run(["cc", "-O2", "-static", "-o", OUT + "/solve", "bench/solve.c", "target/staticlib/libsearch_c.a", "-lpthread"])
 
 
-def problems(text):
-    """The problems of a text: columns, and (columns, weight) for each row."""
-    numbers = iter(int(word, 16) for word in text.split())
-    for rows in numbers:
-        columns = next(numbers)
-        yield columns, [(next(numbers), next(numbers)) for _ in range(rows)]
-
-
-def show(columns, rows):
-    """A problem as text."""
-    return " ".join(["%x %x" % (len(rows), columns)] + ["%x %x" % row for row in rows])
-
-
-def search(text):
-    """What the search answers to a text of problems: a list of (rows, weight, nodes, depth, microseconds), the stack, wall and processor time."""
+def search(texts):
+    """What the search answers to problems as text: a list of (rows, weight, nodes, depth, microseconds), the stack, wall and processor time."""
+    text = "\n".join(texts)
     out, wall, processor = timed([OUT + "/solve"], input=text)
     answers = [tuple(float(word) if "." in word else int(word) for word in line.split()[1:]) for line in out.splitlines()]
     stack = run([OUT + "/solve", "stack"], input=text).split()[-1]
@@ -103,13 +94,13 @@ def other(solver, columns, rows):
     return int(line.group(1)), wall, processor
 
 
-def library(text):
-    """The time that glpk's library takes to solve the problems of a text, without reading them and without a process for each."""
+def library(problems):
+    """The time that glpk's library takes to solve problems, without reading them and without a process for each."""
     glpk = ctypes.CDLL("libglpk.so.40")
     glpk.glp_create_prob.restype = ctypes.c_void_p
     glpk.glp_term_out(0)
     took = 0
-    for columns, rows in problems(text):
+    for columns, rows in problems:
         if columns:
             write_program(PROBLEM, columns, rows)
             problem = ctypes.c_void_p(glpk.glp_create_prob())
@@ -123,8 +114,9 @@ def library(text):
     return took
 
 
-def report(name, text, listed, solvers, lines):
-    answers, stack, wall, processor = search(text)
+def report(name, problems, listed, solvers, lines):
+    texts = [charts.show(*problem) for problem in problems]
+    answers, stack, wall, processor = search(texts)
     for number, (rows, weight, nodes, depth, took) in enumerate(answers if lines else []):
         print("%s %3d: %2d rows, weight %6d, %4d nodes, depth %2d, %8.1f us" % (name, number, rows, weight, nodes, depth, took))
     wrong = sum(weight != right for (_, weight, *_), right in zip(answers, listed or []))
@@ -135,13 +127,13 @@ def report(name, text, listed, solvers, lines):
     print("one process for all charts: %.1f ms wall, %.1f ms processor" % (wall * 1e3, processor * 1e3))
     if not solvers:
         return wrong
-    alone_wall, alone_processor = each_alone([OUT + "/solve"], [show(*problem) for problem in problems(text)])
+    alone_wall, alone_processor = each_alone([OUT + "/solve"], texts)
     print("a process for each chart: %.1f ms wall, %.1f ms processor" % (alone_wall * 1e3, alone_processor * 1e3))
     print("a process that does nothing, for each chart: %.1f ms wall, %.1f ms processor" % tuple(
         1e3 * took for took in each_alone(["true"], [""] * len(answers))))
     for solver in solvers:
         total = used = differ = 0
-        for (columns, rows), (_, weight, *_) in zip(problems(text), answers):
+        for (columns, rows), (_, weight, *_) in zip(problems, answers):
             if columns:
                 optimum, took, busy = other(solver, columns, rows)
                 total, used, differ = total + took, used + busy, differ + (optimum != weight)
@@ -149,7 +141,7 @@ def report(name, text, listed, solvers, lines):
         print("    times as long as one process of ours: %.1f wall, %.1f processor; as a process of ours for each chart: %.1f wall" % (
             total / wall, used / processor, total / alone_wall))
         wrong += differ
-    took = library(text)
+    took = library(problems)
     print("glpk as a library, in one process: %.1f ms to solve, %.1f times as long as our search" % (took * 1e3, took * 1e6 / sum(a[4] for a in answers)))
     return wrong
 
@@ -160,10 +152,10 @@ def main(words):
         sys.exit(__doc__)
     prepare(quick)
     solvers = [] if quick else list(SOLVERS)
-    listed = [int(line.split()[2]) * 10000 + int(line.split()[3]) for line in open(TABLES)]
-    wrong = report("hard6", run([sys.executable, "tests/charts.py", "tables", TABLES]), listed, solvers, True)
+    tables = list(charts.tables(TABLES))
+    wrong = report("hard6", [charts.chart(width, cells) for width, cells, _ in tables], [weight for _, _, weight in tables], solvers, True)
     if not quick:
-        wrong += report("random", run([sys.executable, "tests/charts.py", "random", "1956", "500"]), None, solvers, False)
+        wrong += report("random", charts.random_charts(1956, 500), None, solvers, False)
     sys.exit("%d answers are wrong" % wrong if wrong else 0)
 
 

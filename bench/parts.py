@@ -14,6 +14,9 @@ import shutil
 import subprocess
 import sys
 
+sys.path.insert(0, "tests")
+import charts
+
 TABLES = "tests/tables/hard6.txt"
 OUT = "target/bench/parts"
 PROGRAM = "search_tables/src/main.rt"
@@ -94,8 +97,9 @@ def measure(edits, problems):
 
 
 def main(names):
-    problems = subprocess.run([sys.executable, "tests/charts.py", "tables", TABLES], check=True, stdout=subprocess.PIPE, text=True).stdout
-    listed = sum(int(line.split()[2]) * 10000 + int(line.split()[3]) for line in open(TABLES))
+    tables = list(charts.tables(TABLES))
+    problems = "\n".join(charts.show(*charts.chart(width, cells)) for width, cells, _ in tables)
+    listed = sum(weight for _, _, weight in tables)
     wrong = 0
     for name in names or VARIANTS:
         found = measure(VARIANTS[name], problems)

@@ -71,6 +71,12 @@ def random_cells(generator):
     return cells
 
 
+def random_charts(seed, count):
+    """The charts of random six-bit tables."""
+    generator = random.Random(seed)
+    return [chart(6, random_cells(generator)) for _ in range(count)]
+
+
 def least(columns, rows):
     """The least weight of a selection that covers the columns, by trying each."""
     best = None
@@ -128,13 +134,13 @@ def main(words):
         for width, cells, _ in tables(words[1]):
             print(show(*chart(width, cells)))
     elif words[:1] == ["random"] and len(words) == 3:
-        generator = random.Random(int(words[1]))
-        for _ in range(int(words[2])):
-            print(show(*chart(6, random_cells(generator))))
+        for problem in random_charts(int(words[1]), int(words[2])):
+            print(show(*problem))
     elif words[:1] == ["test"] and len(words) == 3:
         test(words[1], words[2])
     else:
         sys.exit(__doc__)
 
 
-main(sys.argv[1:])
+if __name__ == "__main__":
+    main(sys.argv[1:])
