@@ -92,74 +92,74 @@ module _ (t : ℕ) where
   )
 
   choose-without-row-requires : choose-lts.Need-without-row-requires choose-claims choose-at choose.Post
-  choose-without-row-requires c κs = omega (arith, c .before .before .pre .1 .0 .few, c .before .before .pre .1 .2)
+  choose-without-row-requires c κs = search needs
 
   choose-weight-requires : choose-lts.Need-weight-requires choose-claims choose-at choose.Post
-  choose-weight-requires c κs = omega (arith, c .before .before .before .pre .1 .0 .same, c .before .before .before .pre .1 .2)
+  choose-weight-requires c κs = search needs
 
   choose-mul-without : choose-lts.Need-mul-without choose-claims choose-at choose.Post
-  choose-mul-without c = omega (arith, c .before .before .before .before .pre .1 .0 .few, c .before .before .before .before .pre .1 .2)
+  choose-mul-without c = search needs
 
   choose-shared-slice-read-without : choose-lts.Need-shared-slice-read-without choose-claims choose-at choose.Post
-  choose-shared-slice-read-without c = c .before .before .before .before .before .pre .1 .2
+  choose-shared-slice-read-without c = search needs
 
   choose-without-requires : choose-lts.Need-without-requires choose-claims choose-at choose.Post
-  choose-without-requires c κs = tt
+  choose-without-requires c κs = search needs
 
   choose-room-requires : choose-lts.Need-room-requires choose-claims choose-at choose.Post
-  choose-room-requires c κs = tt
+  choose-room-requires c κs = search needs
 
   choose-reduce-requires : choose-lts.Need-reduce-requires choose-claims choose-at choose.Post
   choose-reduce-requires c κs =
       let s = c .before .before .before .before .before .before .before in (
-        omega (arith, s .pre .0, left-count _ _ _ (c .before .before .before .before .without-row .ensures) 768 (omega (arith, s .pre .1 .0 .few, s .pre .1 .2)) (s .pre .1 .3)),
-        (s .pre .1 .0, omega (arith, c .room .ensures, s .pre .1 .1)),
+        omega (arith, left-count _ _ _ (c .before .before .before .before .without-row .ensures) 768 (omega arith) (s .pre .1 .3)),
+        (s .pre .1 .0, omega arith),
       )
 
   choose-taking-requires : choose-lts.Need-taking-requires choose-claims choose-at choose.Post
   choose-taking-requires c κs =
       let s = c .before .before .before .before .before .before .before .before in
-      (omega (arith, s .pre .1 .0 .few, s .pre .1 .2), c .before .before .before .before .weight .ensures .1, omega (arith, c .reduce .ensures .within, c .before .room .ensures, s .pre .1 .1))
+      (omega arith, c .before .before .before .before .weight .ensures .1, omega arith)
 
   choose-reduce-requires-2 : choose-lts.Need-reduce-requires-2 choose-claims choose-at choose.Post
   choose-reduce-requires-2 c κs =
       let s = c .before .before .before .before .before .before .before .before .before in (
-        omega (arith, s .pre .0, left-count _ _ _ (c .before .before .before .before .before .before .without-row .ensures) 768 (omega (arith, s .pre .1 .0 .few, s .pre .1 .2)) (s .pre .1 .3)),
-        (s .pre .1 .0, omega (arith, c .taking .ensures .weight, s .pre .1 .1)),
+        omega (arith, left-count _ _ _ (c .before .before .before .before .before .before .without-row .ensures) 768 (omega arith) (s .pre .1 .3)),
+        (s .pre .1 .0, omega arith),
       )
 
   choose-lighter-requires : choose-lts.Need-lighter-requires choose-claims choose-at choose.Post
-  choose-lighter-requires c κs = tt
+  choose-lighter-requires c κs = search needs
 
   choose-returns : choose-lts.Need-returns choose-claims choose-at choose.Post
   choose-returns c =
       let s = c .before .before .before .before .before .before .before .before .before .before .before in
-      found-branches (s .args .words .now) (s .args .weights .now) _ _ _ _ _ _ _ _ _ _ (omega (arith, s .pre .1 .0 .few, s .pre .1 .2)) (s .pre .1 .3) (c .before .before .before .before .before .before .before .weight .ensures .0) (c .before .before .before .before .room .ensures)
+      found-branches (s .args .words .now) (s .args .weights .now) _ _ _ _ _ _ _ _ _ _ (omega arith) (s .pre .1 .3) (c .before .before .before .before .before .before .before .weight .ensures .0) (c .before .before .before .before .room .ensures)
       (c .before .before .before .before .before .before .before .before .without-row .ensures) (c .before .before .before .before .before .without .ensures) (c .before .before .before .reduce .ensures) (c .before .before .taking .ensures) _ _ (c .before .reduce2 .ensures) (c .lighter .ensures)
 
   reduce-reduce-requires : reduce-lts.Need-reduce-requires reduce-claims reduce-at reduce.Post
   reduce-reduce-requires c κs = c .before .before .pre .1 .0
 
   reduce-none-below-requires : reduce-lts.Need-none-below-requires reduce-claims reduce-at reduce.Post
-  reduce-none-below-requires c κs = tt
+  reduce-none-below-requires c κs = search needs
 
   reduce-returns : reduce-lts.Need-returns reduce-claims reduce-at reduce.Post
   reduce-returns c = found-spent _ _ _ _ _ _ (c .before .before .before .reduce .ensures) _ _ (c .before .if1 .taken) (c .none-below .ensures)
 
   reduce-is-empty-requires : reduce-lts.Need-is-empty-requires reduce-claims reduce-at reduce.Post
-  reduce-is-empty-requires c κs = tt
+  reduce-is-empty-requires c κs = search needs
 
   reduce-returns-2 : reduce-lts.Need-returns-2 reduce-claims reduce-at reduce.Post
   reduce-returns-2 c = found-decided _ _ _ _ _ _ (c .before .before .before .before .before .reduce .ensures) (c .before .before .before .if1 .left) (c .before .is-empty .ensures .none (c .if2 .taken))
 
   reduce-sub-below : reduce-lts.Need-sub-below reduce-claims reduce-at reduce.Post
-  reduce-sub-below c = omega (arith, c .before .before .before .before .if1 .left)
+  reduce-sub-below c = search needs
 
   reduce-tighten-requires : reduce-lts.Need-tighten-requires reduce-claims reduce-at reduce.Post
-  reduce-tighten-requires c κs = (c .before .before .before .before .before .before .before .before .before .before .pre .1 .0, omega (arith, c .before .before .before .before .before .before .before .before .before .before .pre .1 .1))
+  reduce-tighten-requires c κs = search needs
 
   reduce-none-below-requires-2 : reduce-lts.Need-none-below-requires-2 reduce-claims reduce-at reduce.Post
-  reduce-none-below-requires-2 c κs = tt
+  reduce-none-below-requires-2 c κs = search needs
 
   reduce-returns-3 : reduce-lts.Need-returns-3 reduce-claims reduce-at reduce.Post
   reduce-returns-3 c = found-cut _ _ _ _ _ _ (c .before .before .before .before .before .before .before .before .before .before .before .reduce .ensures) _ _ (c .before .before .before .before .before .before .before .before .before .if1 .left) (c .before .before .before .tighten .ensures) _ _ (c .before .if3 .taken) (c .none-below2 .ensures)
@@ -168,7 +168,7 @@ module _ (t : ℕ) where
   reduce-pick-requires c κs = (c .before .before .before .before .before .before .before .before .before .before .before .before .before .before .before .pre .1 .0, c .before .before .before .before .before .before .before .before .is-empty .ensures .some (c .before .before .before .before .before .before .before .if2 .left))
 
   reduce-none-below-requires-3 : reduce-lts.Need-none-below-requires-3 reduce-claims reduce-at reduce.Post
-  reduce-none-below-requires-3 c κs = tt
+  reduce-none-below-requires-3 c κs = search needs
 
   reduce-returns-4 : reduce-lts.Need-returns-4 reduce-claims reduce-at reduce.Post
   reduce-returns-4 c = found-uncoverable _ _ _ _ _ _ (c .before .before .before .before .before .before .before .before .before .before .before .before .before .before .before .reduce .ensures) _ _ (c .before .before .before .before .before .before .before .before .before .before .before .before .before .if1 .left) (c .before .before .before .before .before .before .before .tighten .ensures) _ _ _ _ (c .before .before .pick .ensures) (c .before .if4 .taken) (c .none-below3 .ensures)
@@ -177,16 +177,16 @@ module _ (t : ℕ) where
   reduce-choose-requires c κs =
       let s = c .before .before .before .before .before .before .before .before .before .before .before .before .before .before .before .before .before in
       let r = c .before .before .before .before .before .before .before .before .before .before .before .before .before .before .reduce in
-      let l : c .before .pick .result < length (s .args .words .now) = omega (arith, c .before .pick .ensures .within, c .if4 .left) in (
-        omega (arith, s .pre .0, count-fewer 768 _ (r .result .live) (r .ensures .reduced .fewer), count-fewer 768 _ (c .before .before .before .before .before .before .tighten .result .live) (c .before .before .before .before .before .before .tighten .ensures .kept .fewer)),
-        (s .pre .1 .0, omega (arith, s .pre .1 .1), l, c .before .pick .ensures .here l),
+      let l : c .before .pick .result < length (s .args .words .now) = omega arith in (
+        omega (arith, count-fewer 768 _ (r .result .live) (r .ensures .reduced .fewer), count-fewer 768 _ (c .before .before .before .before .before .before .tighten .result .live) (c .before .before .before .before .before .before .tighten .ensures .kept .fewer)),
+        (s .pre .1 .0, omega arith, l, c .before .pick .ensures .here l),
       )
 
   reduce-add-t20 : reduce-lts.Need-add-t20 reduce-claims reduce-at reduce.Post
-  reduce-add-t20 c = omega (arith, c .before .before .before .choose .ensures .within, c .before .before .before .before .before .before .before .before .before .before .before .before .before .before .before .before .if1 .left, c .before .before .before .before .before .before .before .before .before .before .before .before .before .before .before .before .before .before .before .before .before .pre .1 .1)
+  reduce-add-t20 c = omega (arith, c .before .before .before .before .before .before .before .before .before .before .before .before .before .before .before .before .if1 .left, c .before .before .before .before .before .before .before .before .before .before .before .before .before .before .before .before .before .before .before .before .before .pre .1 .1)
 
   reduce-either-requires : reduce-lts.Need-either-requires reduce-claims reduce-at reduce.Post
-  reduce-either-requires c κs = tt
+  reduce-either-requires c κs = search needs
 
   reduce-wrapping-add-u64-requires : reduce-lts.Need-wrapping-add-u64-requires reduce-claims reduce-at reduce.Post
   reduce-wrapping-add-u64-requires c κs = search needs
