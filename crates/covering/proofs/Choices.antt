@@ -1,20 +1,21 @@
 -- Branch and bound: what an answer below a limit follows from, also from the two branches of a row, and that the answer of a whole search is a minimum
 -- cover. Assumes nothing.
 use mathlib.Core.Path.{_≡_, refl, sym, ap, subst, _∙_}
-use mathlib.Core.List.{List, [], _∷_, _++_}
-use mathlib.Core.Logic.{_⊎_, inl, inr, ⊎-elim}
+use mathlib.Core.List.{[], _∷_}
+use mathlib.Core.Logic.{_⊎_, inl, inr}
 use mathlib.Core.Bool.{Bool, true, false, cond, _||_}
-use Prim.Native.Nat.{ℕ, zero, suc, _+_, _-_, _*_, _≤_, _<_}
+use Prim.Native.Nat.{ℕ, zero, suc, _+_, _*_, _≤_, _<_}
 use native.Mathlib.Decide.{ℕ-discrete}
 use native.Mathlib.Omega.{arith}
-use lib.Dec.{eqb, ltb}
+use lib.Dec.{ltb}
 use borrow.Author.Tests.{ltb-true, lt-ltb}
 use Rattle.covering.specs.Sum.{pick, sum}
-use Rattle.covering.specs.Cover.{Within, Hits, Covers, weight, AtLeast, Minimum, Cover, rowsOf, total}
+use Rattle.covering.specs.Cover.{Within, Hits, weight, AtLeast, Minimum, Cover, rowsOf, total}
 use Rattle.covering.specs.Search.{none, Reduced, Answers}
+use Rattle.covering.proofs.Flags.{not-set}
 use Rattle.covering.proofs.Sums.{sum-most, sum-skip, pick-le, pick-false}
 use Rattle.covering.proofs.Bounds.{within-mono, within-append, weight-append, hits-append, nothing, smaller, branch}
-use Rattle.covering.proofs.Reductions.{not-set, cover-same, cover-nothing}
+use Rattle.covering.proofs.Reductions.{cover-same, cover-nothing}
 
 module _ (cov : ℕ → ℕ → Type 0) (w : ℕ → ℕ) (n : ℕ) where
   -- ---- answers

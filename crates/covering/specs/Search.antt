@@ -1,6 +1,5 @@
 -- What the steps of a branch and bound owe: a reduction, and an answer below a limit. Definitions only. Assumes nothing.
-use mathlib.Core.Path.{_≡_}
-use mathlib.Core.Bool.{Bool, true, false, _||_}
+use mathlib.Core.Bool.{Bool, false, _||_}
 use Prim.Native.Nat.{ℕ, _+_, _≤_, _<_}
 use lib.Dec.{eqb}
 use Rattle.covering.specs.Cover.{AtLeast, Cover}

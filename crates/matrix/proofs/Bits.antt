@@ -1,10 +1,9 @@
 -- Words as sets of columns: what each operation on words does to a column, as an equation of flags. Each goes by the quotient by 2 ^ c, under which the
 -- operations on words stay what they are, and then by the lowest digit. Assumes nothing.
-use mathlib.Core.Path.{_≡_, refl, sym, ap, ap₂, subst, _∙_}
-use mathlib.Core.Logic.{_⊎_, inl, inr, ⊎-elim}
-use mathlib.Core.Bool.{Bool, true, false, not, _&&_, _||_}
+use mathlib.Core.Path.{_≡_, refl, sym, ap, subst, _∙_}
+use mathlib.Core.Bool.{false, not, _&&_, _||_}
 use Prim.Native.Nat.{ℕ, zero, suc, _+_, _-_, _*_, _/_, _%_, _^_, _≤_, _<_, min, max}
-use native.Mathlib.Nat.{zero-lt-suc, pow-suc, pow-succ', div-lt-iff-lt-mul, div-div-eq-div-mul, div-one, zero-div, lt-of-lt-of-le, lt-of-le-of-lt, div-le-self, div-eq-of-lt, div-self, mul-mod-left, one-mul, mod-eq-of-lt}
+use native.Mathlib.Nat.{zero-lt-suc, pow-suc, div-lt-iff-lt-mul, div-div-eq-div-mul, div-one, zero-div, lt-of-lt-of-le, lt-of-le-of-lt, div-le-self, div-eq-of-lt, div-self, mul-mod-left, one-mul, mod-eq-of-lt}
 use native.Mathlib.Omega.{arith}
 use native.Mathlib.Decide.{decLt}
 use lib.Dec.{eqb}
@@ -12,6 +11,7 @@ use lib.Pow.{pow-mono, pow-lt, pow-pos, pow-add, shl-shr}
 use lib.Bits.{bitAnd, bitOr, bitXor, differ, and-step, or-step, xor-step, and-shr, or-shr, xor-shr, and-mask}
 use lib.Count.{trailingZeros, under}
 use borrow.Author.Tests.{eq-eqb, ne-eqb}
+use Rattle.covering.proofs.Flags.{clash}
 use Rattle.matrix.specs.Sets.{has, In, Next}
 
 digit : ℕ → ℕ → ℕ
@@ -119,7 +119,7 @@ in-below x c d h i = go (decLt c d)
 
     go : Dec (c < d) → c < d
     go (yes l) = l
-    go (no n) = absurd (let e : true ≡ false = sym i ∙ high (omega arith) in let z : _≡_ {A = ℕ} 0 1 = cc in omega arith)
+    go (no n) = clash i (high (omega arith))
 
 -- ---- the lowest column
 
@@ -196,4 +196,4 @@ first-in x {r} l i n = go (decLt r 64)
   where
     go : Dec (r < 64) → In x r
     go (yes h) = n .here h
-    go (no h) = absurd (let b = in-below x (i .0) 64 l (i .1) in let e : true ≡ false = sym (i .1) ∙ n .before (i .0) (omega arith) (omega (arith, n .within)) in let z : _≡_ {A = ℕ} 0 1 = cc in omega arith)
+    go (no h) = let b = in-below x (i .0) 64 l (i .1) in clash (i .1) (n .before (i .0) (omega arith) (omega (arith, n .within)))

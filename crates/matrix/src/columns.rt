@@ -49,6 +49,24 @@ pub fn without(a: u64, b: u64) -> u64
     a ^ (a & b)
 }
 
+// The columns of some words, and those that two of them have.
+pub struct Coverage {
+    pub once: u64,
+    pub twice: u64,
+}
+
+// One word more.
+pub fn with_word(coverage: Coverage, word: u64) -> Coverage
+    ensures once { λ r. ⌜ ((x : ℕ) → has (r .once) x ≡ (has (coverage .once) x || has word x)) ⌝ }
+    ensures twice { λ r. ⌜ ((x : ℕ) → has (r .twice) x ≡ (has (coverage .twice) x || has (coverage .once) x && has word x)) ⌝ }
+{
+    let again = both(coverage.once, word);
+    Coverage {
+        once: either(coverage.once, word),
+        twice: either(coverage.twice, again),
+    }
+}
+
 // Whether every column of a is one of b.
 pub fn inside(a: u64, b: u64) -> bool
     ensures { λ r. ⌜ (r ≡ true → (x : ℕ) → In a x → In b x) ⌝ }

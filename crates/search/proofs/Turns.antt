@@ -11,12 +11,13 @@ use native.Mathlib.Omega.{arith}
 use lib.Dec.{eqb, ltb}
 use lib.ListN.{length, getD}
 use borrow.Author.Tests.{ltb-true, lt-ltb}
+use Rattle.covering.proofs.Flags.{kept-of, kept-or}
 use Rattle.covering.proofs.Bounds.{nothing, smaller, uncoverable}
 use Rattle.covering.proofs.Choices.{answer-nothing, answer-none, answer-reduced, answer-fewer, answer-without, minimum}
 use Rattle.covering.proofs.Reductions.{cover-same, cover-with}
 use Rattle.matrix.specs.Sets.{has, In, member, Member}
 use Rattle.matrix.specs.Matrix.{covers, weightOf}
-use Rattle.matrix.proofs.Without.{kept-of, kept-or, left-in, left-out, left-rest}
+use Rattle.matrix.proofs.Without.{left-in, left-out, left-rest}
 use Rattle.reduction.specs.Reduction.{ReducedTo}
 use Rattle.reduction.specs.declared.Remaining.{Remaining}
 use Rattle.bound.specs.Bound.{Bounds}

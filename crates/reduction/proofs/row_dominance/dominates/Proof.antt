@@ -3,8 +3,7 @@ use borrow.Author.Needs.{needs}
 use mathlib.Core.Path.{refl, sym, _∙_}
 use native.Mathlib.Omega.{arith}
 use borrow.Author.Tests.{not-false}
-use Rattle.matrix.proofs.Walks.{clash}
-use Rattle.reduction.proofs.Narrowing.{of-both}
+use Rattle.covering.proofs.Flags.{clash, of-both}
 use Rattle.reduction.proofs.row_dominance.dominates.Statement.{statement}
 use Rattle.reduction.proofs.row_dominance.dominates.Tie as tie
 
