@@ -8,10 +8,10 @@ use native.Mathlib.Omega.{arith}
 use native.Mathlib.Decide.{decLt}
 use lib.Dec.{eqb}
 use lib.Pow.{pow-mono, pow-lt, pow-pos, pow-add, shl-shr}
-use lib.Bits.{bitAnd, bitOr, bitXor, differ, and-step, or-step, xor-step, and-shr, or-shr, xor-shr, and-mask}
+use lib.Bits.{bitAnd, bitOr, bitXor, differ, and-step, or-step, xor-step, and-shr, or-shr, xor-shr, and-mask, and-le-l, and-le-r, xor-lt, xor-add-and}
 use lib.Count.{trailingZeros, under}
 use borrow.Author.Tests.{eq-eqb, ne-eqb}
-use Rattle.covering.proofs.Flags.{clash}
+use Rattle.covering.proofs.Flags.{clash, kept-of}
 use Rattle.matrix.specs.Sets.{has, In, Next}
 
 digit : ℕ → ℕ → ℕ
@@ -162,6 +162,16 @@ pub before-lowest : (d x c : ℕ) → c < trailingZeros d x → has x c ≡ fals
 unfolding trailingZeros
 before-lowest zero x c l = absurd (omega arith)
 before-lowest (suc d) x c l = before-step (trailingZeros d (x / 2)) x (x % 2) refl (λ c k. before-lowest d (x / 2) c k) c l
+
+-- a word that is not within another has a column that the other lacks
+pub first-lacking : (d a b : ℕ) → a < 2 ^ d → (bitAnd a b ≡ a → ⊥) → (c : ℕ) × In a c × (In b c → ⊥)
+first-lacking d a b l n =
+    let m = and-le-l a b in
+    let x = xor-lt d a (bitAnd a b) l (lt-of-le-of-lt m l) in
+    let p : 0 < bitXor a (bitAnd a b) = omega (arith, xor-add-and a (bitAnd a b), and-le-r a (bitAnd a b)) in
+    let c = trailingZeros d (bitXor a (bitAnd a b)) in
+    let k = kept-of (has a c) (has b c) (has-without a b c) (lowest-in d (bitXor a (bitAnd a b)) p x) in
+    (c, k .0, k .1)
 
 -- ---- the first column from f on, of what is shifted down by f
 

@@ -1,9 +1,9 @@
 // Sets of columns: words of 64 bits.
 ghost use mathlib.Core.Path.{_≡_};
-ghost use mathlib.Core.Bool.{true, not, _&&_, _||_};
+ghost use mathlib.Core.Bool.{not, _&&_, _||_};
 ghost use Prim.Native.Nat.{ℕ, _≤_, _<_};
 ghost use lib.Dec.{eqb};
-ghost use Rattle.matrix.specs.Sets.{Emptiness, has, In, Next};
+ghost use Rattle.matrix.specs.Sets.{Emptiness, has, Inclusion, Next};
 
 // Whether a set has the column c.
 pub fn has(set: u64, c: usize) -> bool
@@ -69,7 +69,7 @@ pub fn with_word(coverage: Coverage, word: u64) -> Coverage
 
 // Whether every column of a is one of b.
 pub fn inside(a: u64, b: u64) -> bool
-    ensures { λ r. ⌜ (r ≡ true → (x : ℕ) → In a x → In b x) ⌝ }
+    ensures { λ r. ⌜ Inclusion a b r ⌝ }
 {
     a & b == a
 }

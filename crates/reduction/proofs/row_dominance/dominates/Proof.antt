@@ -54,7 +54,7 @@ returns-4 c = λ e. record {
   other = c .before .before .before .before .if2 .left;
   lives = sym (c .has .ensures) ∙ e;
   light = omega (arith, c .before .if3 .left);
-  inside = λ x h k. c .before .before .before .before .before .before .inside .ensures (not-false _ (c .before .before .before .before .before .if1 .left)) x (of-both (c .before .before .before .before .before .before .before .before .both .ensures x) k h);
+  inside = λ x h k. c .before .before .before .before .before .before .inside .ensures .all (not-false _ (c .before .before .before .before .before .if1 .left)) x (of-both (c .before .before .before .before .before .before .before .before .both .ensures x) k h);
 }
 
 pub dominates-spec : {M : Type 1} → statement M
