@@ -1,9 +1,9 @@
 -- Prices as a dual solution: each undecided column is an inequality, times its price. The bound is the sum of the prices, it is rounded up in rows, and a
 -- row whose own weight with the bound of what it leaves reaches the limit is in no cover below the limit. Assumes nothing.
-use mathlib.Core.Path.{_≡_, refl, sym, ap, ap₂, _∙_}
+use mathlib.Core.Path.{_≡_, refl, ap, ap₂, _∙_}
 use mathlib.Core.List.{List}
 use mathlib.Core.Logic.{_⊎_, inl, inr}
-use mathlib.Core.Bool.{Bool, true, false, not, _&&_, and-true}
+use mathlib.Core.Bool.{Bool, true, false, not, _&&_}
 use Prim.Native.Nat.{ℕ, _+_, _-_, _*_, _/_, _≤_, _<_}
 use native.Mathlib.Nat.{div-mul-le-self, mul-le-mul-right}
 use native.Mathlib.Decide.{decLt}
@@ -11,14 +11,15 @@ use native.Mathlib.Omega.{arith}
 use lib.Bits.{bitAnd, bitXor}
 use lib.Dec.{eqb}
 use lib.ListN.{length, getD}
-use Rattle.covering.specs.Sum.{pick, sum}
+use Rattle.covering.specs.Sum.{pick}
 use Rattle.covering.specs.Cover.{AtLeast}
+use Rattle.covering.proofs.Flags.{kept-of}
 use Rattle.covering.proofs.Sums.{sum-same, sum-mono, sum-add, pick-true, pick-false, pick-mono}
 use Rattle.covering.proofs.Bounds.{smaller, narrower, nothing, column, dual, in-rows, branch, useful}
 use Rattle.matrix.specs.Sets.{has, In, member, Member}
 use Rattle.matrix.specs.Matrix.{covers, weightOf, Low}
 use Rattle.matrix.proofs.Bits.{has-without}
-use Rattle.matrix.proofs.Without.{kept-of, left-in, left-rest, covers-past}
+use Rattle.matrix.proofs.Without.{left-in, left-rest, covers-past}
 use Rattle.bound.specs.Bound.{worth, Pays, Feasible, Ranges, Kept, Bounds}
 
 -- the value of a row's undecided columns, as the check has it

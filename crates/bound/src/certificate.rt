@@ -3,7 +3,7 @@
 ghost use mathlib.Core.Path.{_≡_};
 ghost use mathlib.Core.Bool.{true};
 ghost use Prim.Native.Nat.{ℕ, _*_, _^_, _≤_, _<_, min, max};
-ghost use lib.ListN.{length, getD};
+ghost use lib.ListN.{length};
 ghost use Rattle.matrix.specs.Matrix.{Sizes, Low};
 ghost use Rattle.bound.specs.Bound.{Valued, Pays, Feasible, Ranges, Kept, Bounds};
 use matrix::columns;
@@ -86,7 +86,7 @@ fn weight_range(words: &[u64], weights: &[u32], live: &[u64; 12]) -> Range
     requires { ⌜ Sizes (now words) (now weights) ⌝ }
     ensures { λ r. ⌜ Ranges (now (weights .entry)) (now (live .entry)) (length (now (words .entry))) (r .least) (r .most) ⌝ }
 {
-    let mut least: u64 = 4294967295;
+    let mut least = u32::MAX as u64;
     let mut most: u64 = 1;
     let mut i = rows::next(live, 0, words.len());
     while i < words.len() {

@@ -16,7 +16,7 @@ fn smaller(a: u32, b: u32) -> u32 {
 fn least_slack(slack: &[u32; 768], set: &[u64; 12], end: usize) -> u32
     requires { ⌜ end ≤ 768 ⌝ }
 {
-    let mut least: u32 = 4294967295;
+    let mut least = u32::MAX;
     let mut i = rows::next(set, 0, end);
     while i < end {
         least = smaller(least, slack[i]);
@@ -230,7 +230,7 @@ fn fair(weight: u32, n: u32) -> u32 {
 fn shares(words: &[u64], weights: &[u32], live: &[u64; 12], undecided: u64) -> [u32; 64]
     requires { ⌜ Sizes (now words) (now weights) ⌝ }
 {
-    let mut prices = [4294967295u32; 64];
+    let mut prices = [u32::MAX; 64];
     let mut i = rows::next(live, 0, words.len());
     while i < words.len() {
         let set = columns::both(words[i], undecided);

@@ -1,20 +1,21 @@
--- Branch and bound: what an answer below a limit follows from, how the rows of a choice are tried one after the other, and that the answer of a whole
--- search is a minimum cover. Assumes nothing.
+-- Branch and bound: what an answer below a limit follows from, also from the two branches of a row, and that the answer of a whole search is a minimum
+-- cover. Assumes nothing.
 use mathlib.Core.Path.{_≡_, refl, sym, ap, subst, _∙_}
-use mathlib.Core.List.{List, [], _∷_, _++_}
-use mathlib.Core.Logic.{_⊎_, inl, inr, ⊎-elim}
+use mathlib.Core.List.{[], _∷_}
+use mathlib.Core.Logic.{_⊎_, inl, inr}
 use mathlib.Core.Bool.{Bool, true, false, cond, _||_}
-use Prim.Native.Nat.{ℕ, zero, suc, _+_, _-_, _*_, _≤_, _<_}
+use Prim.Native.Nat.{ℕ, zero, suc, _+_, _*_, _≤_, _<_}
 use native.Mathlib.Decide.{ℕ-discrete}
 use native.Mathlib.Omega.{arith}
-use lib.Dec.{eqb, ltb}
+use lib.Dec.{ltb}
 use borrow.Author.Tests.{ltb-true, lt-ltb}
 use Rattle.covering.specs.Sum.{pick, sum}
-use Rattle.covering.specs.Cover.{Within, Hits, Covers, weight, AtLeast, Minimum, Cover, rowsOf, total}
-use Rattle.covering.specs.Search.{none, Reduced, Answers, Tried}
+use Rattle.covering.specs.Cover.{Within, Hits, weight, AtLeast, Minimum, Cover, rowsOf, total}
+use Rattle.covering.specs.Search.{none, Reduced, Answers}
+use Rattle.covering.proofs.Flags.{not-set}
 use Rattle.covering.proofs.Sums.{sum-most, sum-skip, pick-le, pick-false}
-use Rattle.covering.proofs.Bounds.{within-mono, within-append, weight-append, hits-append, nothing, smaller, uncoverable, branch}
-use Rattle.covering.proofs.Reductions.{not-set, cover-same, cover-nothing, cover-with}
+use Rattle.covering.proofs.Bounds.{within-mono, within-append, weight-append, hits-append, nothing, smaller, branch}
+use Rattle.covering.proofs.Reductions.{cover-same, cover-nothing}
 
 module _ (cov : ℕ → ℕ → Type 0) (w : ℕ → ℕ) (n : ℕ) where
   -- ---- answers
@@ -45,40 +46,10 @@ module _ (cov : ℕ → ℕ → Type 0) (w : ℕ → ℕ) (n : ℕ) where
     cover = λ l. let x = f .cover l in record { live = λ i y. fewer i (x .live i y); covers = x .covers; weighs = x .weighs };
   }
 
-  -- ---- the rows of a choice
-
-  pub tried-none : {A U : ℕ → Type 0} {limit : ℕ} (p : ℕ → Bool) → Tried cov w n A U limit A limit p
-  tried-none p = record { fewer = λ i y. y; low = λ x l b. b; within = omega arith; cover = λ h. absurd (omega arith) }
-
-  -- no row is left for the column of the choice
-  pub tried-all : {A U R : ℕ → Type 0} {limit k : ℕ} {p : ℕ → Bool} (c : ℕ) → U c → ((i : ℕ) → R i → cov i c → ⊥)
-      → Tried cov w n A U limit R k p → Answers cov w n A U limit k p
-  tried-all {k = k} c u f t = record { low = t .low k (omega arith) (uncoverable cov c k u f); within = t .within; cover = t .cover }
-
-  module _ {A U R R′ U′ : ℕ → Type 0} {limit k k₁ : ℕ} {p : ℕ → Bool} (r : ℕ) (is : R r) (out : R′ r → ⊥) (fewer : (i : ℕ) → R′ i → R i)
-      (rest : (i : ℕ) → R i → (i ≡ r → ⊥) → R′ i) (left : (c : ℕ) → U′ c → U c × (cov r c → ⊥)) (tried : Tried cov w n A U limit R k p) where
-    after : (x : ℕ) → AtLeast cov w R′ U′ k₁ → x ≤ k → x ≤ w r + k₁ → AtLeast cov w R′ U x → AtLeast cov w A U x
-    after x b l₁ l₂ y = tried .low x l₁ (branch cov w r rest x left b y l₂ (omega arith))
-
-    -- with r no cover is lighter than the incumbent
-    pub tried-kept : AtLeast cov w R′ U′ k₁ → k ≤ k₁ + w r → Tried cov w n A U limit R′ k p
-    tried-kept b l = record {
-      fewer = λ i y. tried .fewer i (fewer i y);
-      low = λ x m y. after x b m (omega arith) y;
-      within = tried .within;
-      cover = tried .cover;
-    }
-
-    -- r and the cover of what it leaves is the new incumbent
-    pub tried-better : {room : ℕ} {p₁ q : ℕ → Bool} → r < n → ((c : ℕ) → U c → cov r c ⊎ U′ c) → room ≡ k - w r → ((i : ℕ) → q i ≡ (eqb i r || p₁ i))
-        → k₁ + w r < k → Answers cov w n R′ U′ room k₁ p₁ → Tried cov w n A U limit R′ (k₁ + w r) q
-    tried-better h right e s l f = record {
-      fewer = λ i y. tried .fewer i (fewer i y);
-      low = λ x m y. after x (f .low) (omega arith) (omega arith) y;
-      within = omega (arith, tried .within);
-      cover = λ m. cover-same cov w n s (omega arith)
-          (cover-with cov w n r h (tried .fewer r is) out (λ i y. tried .fewer i (fewer i y)) right (f .cover (omega arith)));
-    }
+  -- Below what the row r gives, with a lower bound k₁ of what it leaves, the answer without r is that of the whole.
+  pub answer-without : {A A′ U U′ : ℕ → Type 0} {limit k k₁ : ℕ} {p : ℕ → Bool} (r : ℕ) → ((i : ℕ) → A′ i → A i) → ((i : ℕ) → A i → (i ≡ r → ⊥) → A′ i)
+      → ((c : ℕ) → U′ c → U c × (cov r c → ⊥)) → AtLeast cov w A′ U′ k₁ → limit ≤ w r + k₁ → Answers cov w n A′ U limit k p → Answers cov w n A U limit k p
+  answer-without r fewer rest left b l f = answer-fewer fewer (λ x m y. branch cov w r rest x left b y (omega arith) (omega arith)) f
 
 -- ---- a set as a selection
 

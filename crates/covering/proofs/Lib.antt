@@ -1,4 +1,5 @@
 -- The laws of weighted covers.
+pub mod Flags
 pub mod Sums
 pub mod Bounds
 pub mod Reductions

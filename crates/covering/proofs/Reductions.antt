@@ -3,33 +3,18 @@
 use mathlib.Core.Path.{_≡_, refl, sym, ap, subst, _∙_}
 use mathlib.Core.List.{List}
 use mathlib.Core.Logic.{_⊎_, inl, inr, ⊎-elim}
-use mathlib.Core.Bool.{Bool, true, false, _||_, or-false, or-assoc, or-true}
+use mathlib.Core.Bool.{Bool, true, _||_, or-false, or-assoc}
 use Prim.Native.Nat.{ℕ, _+_, _≤_, _<_}
 use native.Mathlib.Nat.{add-zero}
 use native.Mathlib.Omega.{arith}
 use lib.Dec.{eqb}
 use borrow.Author.Tests.{eq-eqb, eqb-true}
 use Rattle.covering.specs.Sum.{pick, sum}
-use Rattle.covering.specs.Cover.{Within, Hits, weight, AtLeast, Cover, total}
+use Rattle.covering.specs.Cover.{Within, Hits, weight, Cover}
 use Rattle.covering.specs.Search.{none, only, _∪_, Reduced}
+use Rattle.covering.proofs.Flags.{clash, not-set, either-of, left-of, right-of}
 use Rattle.covering.proofs.Sums.{sum-same, sum-skip, sum-with}
 use Rattle.covering.proofs.Bounds.{smaller, narrower, branch, dominated, uncoverable}
-
--- ---- flags
-
-pub not-set : (b : Bool) → (b ≡ true → ⊥) → b ≡ false
-not-set true h = absurd (h refl)
-not-set false h = refl
-
-or-cases : (a b : Bool) → (a || b) ≡ true → (a ≡ true) ⊎ (b ≡ true)
-or-cases true b e = inl refl
-or-cases false b e = inr e
-
-or-left : {a : Bool} (b : Bool) → a ≡ true → (a || b) ≡ true
-or-left b e = ap (λ (x : Bool). x || b) e
-
-or-right : (a : Bool) {b : Bool} → b ≡ true → (a || b) ≡ true
-or-right a e = ap (λ (x : Bool). a || x) e ∙ or-true a
 
 module _ (cov : ℕ → ℕ → Type 0) (w : ℕ → ℕ) (n : ℕ) where
   -- ---- covers
@@ -45,14 +30,14 @@ module _ (cov : ℕ → ℕ → Type 0) (w : ℕ → ℕ) (n : ℕ) where
   -- no column is left
   pub cover-nothing : {A U : ℕ → Type 0} → ((c : ℕ) → U c → ⊥) → Cover cov w n A U none 0
   unfolding sum
-  cover-nothing e = record { live = λ i y. absurd (let z : _≡_ {A = ℕ} 0 1 = cc in omega arith); covers = λ c u. absurd (e c u); weighs = sum-skip 0 n (omega arith) (λ i l m. refl) }
+  cover-nothing e = record { live = λ i y. clash y refl; covers = λ c u. absurd (e c u); weighs = sum-skip 0 n (omega arith) (λ i l m. refl) }
 
   -- the row r with a cover of what it leaves
   pub cover-with : {A A′ U U′ : ℕ → Type 0} {p : ℕ → Bool} {k : ℕ} (r : ℕ) → r < n → A r → (A′ r → ⊥) → ((i : ℕ) → A′ i → A i)
       → ((c : ℕ) → U c → cov r c ⊎ U′ c) → Cover cov w n A′ U′ p k → Cover cov w n A U (only r ∪ p) (w r + k)
   cover-with {A} {p = p} r l is out fewer left x = record {
-    live = λ i y. ⊎-elim (λ e. subst A (sym (eqb-true i r e)) is) (λ z. fewer i (x .live i z)) (or-cases (eqb i r) (p i) y);
-    covers = λ c u. ⊎-elim (λ y. (r, or-left (p r) (eq-eqb r r refl), y)) (λ v. let t = x .covers c v in (t .0, or-right (eqb (t .0) r) (t .1), t .2)) (left c u);
+    live = λ i y. ⊎-elim (λ e. subst A (sym (eqb-true i r e)) is) (λ z. fewer i (x .live i z)) (either-of (eqb i r) (p i) y);
+    covers = λ c u. ⊎-elim (λ y. (r, left-of (eqb r r) (p r) refl (eq-eqb r r refl), y)) (λ v. let t = x .covers c v in (t .0, right-of (eqb (t .0) r) (p (t .0)) refl (t .1), t .2)) (left c u);
     weighs = sum-with n r w p (only r ∪ p) l (not-set (p r) (λ y. out (x .live r y))) (λ i. refl) ∙ ap (λ (y : ℕ). w r + y) (x .weighs);
   }
 

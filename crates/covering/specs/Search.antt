@@ -1,6 +1,5 @@
--- What the steps of a branch and bound owe: a reduction, an answer below a limit, and the rows of a choice tried so far. Definitions only. Assumes nothing.
-use mathlib.Core.Path.{_≡_}
-use mathlib.Core.Bool.{Bool, true, false, _||_}
+-- What the steps of a branch and bound owe: a reduction, and an answer below a limit. Definitions only. Assumes nothing.
+use mathlib.Core.Bool.{Bool, false, _||_}
 use Prim.Native.Nat.{ℕ, _+_, _≤_, _<_}
 use lib.Dec.{eqb}
 use Rattle.covering.specs.Cover.{AtLeast, Cover}
@@ -26,12 +25,5 @@ pub record Reduced (cov : ℕ → ℕ → Type 0) (w : ℕ → ℕ) (n : ℕ) (A
 -- the answer of a search below a limit: a lower bound k that is at most the limit, with a cover of that weight where it is below the limit
 pub record Answers (cov : ℕ → ℕ → Type 0) (w : ℕ → ℕ) (n : ℕ) (A U : ℕ → Type 0) (limit k : ℕ) (p : ℕ → Bool) : Type 0 where
   pub low : AtLeast cov w A U k
-  pub within : k ≤ limit
-  pub cover : k < limit → Cover cov w n A U p k
-
--- Some rows of a choice were tried, and R are left. The incumbent p weighs k: a cover lighter than k, if there is one, is a selection of R.
-pub record Tried (cov : ℕ → ℕ → Type 0) (w : ℕ → ℕ) (n : ℕ) (A U : ℕ → Type 0) (limit : ℕ) (R : ℕ → Type 0) (k : ℕ) (p : ℕ → Bool) : Type 0 where
-  pub fewer : (i : ℕ) → R i → A i
-  pub low : (x : ℕ) → x ≤ k → AtLeast cov w R U x → AtLeast cov w A U x
   pub within : k ≤ limit
   pub cover : k < limit → Cover cov w n A U p k

@@ -1,1 +1,2 @@
+-- Why a prime with a sole entry is essential.
 pub mod SoleEntries

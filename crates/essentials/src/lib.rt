@@ -7,8 +7,7 @@ use cube::Counted;
 use matrix::columns;
 ghost use mathlib.Core.Path.{_≡_};
 ghost use mathlib.Core.Bool.{cond, not};
-ghost use mathlib.Core.List.{List};
-ghost use Prim.Native.Nat.{ℕ, _+_, _<_, _≤_, _^_};
+ghost use Prim.Native.Nat.{_<_, _≤_, _^_};
 ghost use lib.Bits.{bitAnd};
 ghost use lib.Dec.{eqb};
 ghost use lib.ListN.{length, getD};
@@ -17,7 +16,7 @@ ghost use Rattle.cube.specs.Words.{prime, essential, essentialsOf};
 ghost use Rattle.cube.specs.Calls.{widest, Listed};
 ghost use Rattle.primes.specs.Primes.{primesRefuses, Flagged, Marks, isMarked};
 ghost use Rattle.chart.specs.Columns.{columnsOf};
-ghost use Rattle.essentials.specs.Essentials.{PrimeWords, Seen, SoleColumns};
+ghost use Rattle.essentials.specs.Essentials.{PrimeWords, SoleColumns};
 
 // The word of cube q: its columns if it is marked as a prime, else none.
 fn prime_word(n: usize, table: &[u8], marks: &[u8], q: usize) -> u64
@@ -43,32 +42,15 @@ fn prime_words(n: usize, table: &[u8], marks: &[u8], words: &mut [u64])
     }
 }
 
-// The columns that at least one word has, and those that at least two have.
-pub struct Entries {
-    pub once: u64,
-    pub twice: u64,
-}
-
-// One word more.
-fn with_word(seen: Entries, word: u64) -> Entries
-    ensures { λ r. ⌜ ((words : List ℕ) (m : ℕ) → getD words m 0 ≡ word → Seen words m (seen .once) (seen .twice) → Seen words (m + 1) (r .once) (r .twice)) ⌝ }
-{
-    let again = columns::both(seen.once, word);
-    Entries {
-        once: columns::either(seen.once, word),
-        twice: columns::either(seen.twice, again),
-    }
-}
-
 // The columns that one of the first m words alone has.
 fn sole_columns(words: &[u64], m: usize) -> u64
     requires { ⌜ m ≤ length (now words) ⌝ }
     ensures { λ r. ⌜ SoleColumns (now (words .entry)) m r ⌝ }
 {
-    let mut seen = Entries { once: 0, twice: 0 };
+    let mut seen = columns::Coverage { once: 0, twice: 0 };
     let mut q = 0;
     while q < m {
-        seen = with_word(seen, words[q]);
+        seen = columns::with_word(seen, words[q]);
         q += 1;
     }
     columns::without(seen.once, seen.twice)

@@ -1,17 +1,17 @@
 -- Words as sets of columns: what each operation on words does to a column, as an equation of flags. Each goes by the quotient by 2 ^ c, under which the
 -- operations on words stay what they are, and then by the lowest digit. Assumes nothing.
-use mathlib.Core.Path.{_≡_, refl, sym, ap, ap₂, subst, _∙_}
-use mathlib.Core.Logic.{_⊎_, inl, inr, ⊎-elim}
-use mathlib.Core.Bool.{Bool, true, false, not, _&&_, _||_}
+use mathlib.Core.Path.{_≡_, refl, sym, ap, subst, _∙_}
+use mathlib.Core.Bool.{false, not, _&&_, _||_}
 use Prim.Native.Nat.{ℕ, zero, suc, _+_, _-_, _*_, _/_, _%_, _^_, _≤_, _<_, min, max}
-use native.Mathlib.Nat.{zero-lt-suc, pow-suc, pow-succ', div-lt-iff-lt-mul, div-div-eq-div-mul, div-one, zero-div, lt-of-lt-of-le, lt-of-le-of-lt, div-le-self, div-eq-of-lt, div-self, mul-mod-left, one-mul, mod-eq-of-lt}
+use native.Mathlib.Nat.{zero-lt-suc, pow-suc, div-lt-iff-lt-mul, div-div-eq-div-mul, div-one, zero-div, lt-of-lt-of-le, lt-of-le-of-lt, div-le-self, div-eq-of-lt, div-self, mul-mod-left, one-mul, mod-eq-of-lt}
 use native.Mathlib.Omega.{arith}
 use native.Mathlib.Decide.{decLt}
 use lib.Dec.{eqb}
 use lib.Pow.{pow-mono, pow-lt, pow-pos, pow-add, shl-shr}
-use lib.Bits.{bitAnd, bitOr, bitXor, differ, and-step, or-step, xor-step, and-shr, or-shr, xor-shr, and-mask}
+use lib.Bits.{bitAnd, bitOr, bitXor, differ, and-step, or-step, xor-step, and-shr, or-shr, xor-shr, and-mask, and-le-l, and-le-r, xor-lt, xor-add-and}
 use lib.Count.{trailingZeros, under}
 use borrow.Author.Tests.{eq-eqb, ne-eqb}
+use Rattle.covering.proofs.Flags.{clash, kept-of}
 use Rattle.matrix.specs.Sets.{has, In, Next}
 
 digit : ℕ → ℕ → ℕ
@@ -119,7 +119,7 @@ in-below x c d h i = go (decLt c d)
 
     go : Dec (c < d) → c < d
     go (yes l) = l
-    go (no n) = absurd (let e : true ≡ false = sym i ∙ high (omega arith) in let z : _≡_ {A = ℕ} 0 1 = cc in omega arith)
+    go (no n) = clash i (high (omega arith))
 
 -- ---- the lowest column
 
@@ -163,6 +163,16 @@ unfolding trailingZeros
 before-lowest zero x c l = absurd (omega arith)
 before-lowest (suc d) x c l = before-step (trailingZeros d (x / 2)) x (x % 2) refl (λ c k. before-lowest d (x / 2) c k) c l
 
+-- a word that is not within another has a column that the other lacks
+pub first-lacking : (d a b : ℕ) → a < 2 ^ d → (bitAnd a b ≡ a → ⊥) → (c : ℕ) × In a c × (In b c → ⊥)
+first-lacking d a b l n =
+    let m = and-le-l a b in
+    let x = xor-lt d a (bitAnd a b) l (lt-of-le-of-lt m l) in
+    let p : 0 < bitXor a (bitAnd a b) = omega (arith, xor-add-and a (bitAnd a b), and-le-r a (bitAnd a b)) in
+    let c = trailingZeros d (bitXor a (bitAnd a b)) in
+    let k = kept-of (has a c) (has b c) (has-without a b c) (lowest-in d (bitXor a (bitAnd a b)) p x) in
+    (c, k .0, k .1)
+
 -- ---- the first column from f on, of what is shifted down by f
 
 from-shifted : (x f i : ℕ) → f ≤ i → has (x / 2 ^ f) (i - f) ≡ has x i
@@ -196,4 +206,4 @@ first-in x {r} l i n = go (decLt r 64)
   where
     go : Dec (r < 64) → In x r
     go (yes h) = n .here h
-    go (no h) = absurd (let b = in-below x (i .0) 64 l (i .1) in let e : true ≡ false = sym (i .1) ∙ n .before (i .0) (omega arith) (omega (arith, n .within)) in let z : _≡_ {A = ℕ} 0 1 = cc in omega arith)
+    go (no h) = let b = in-below x (i .0) 64 l (i .1) in clash (i .1) (n .before (i .0) (omega arith) (omega (arith, n .within)))

@@ -1,16 +1,13 @@
 -- Going through a set by `next`: what is passed over adds nothing to a sum, and what holds of each member passed holds of all in the end. Assumes nothing.
-use mathlib.Core.Path.{_≡_, refl, sym, ap, subst, _∙_}
-use mathlib.Core.Bool.{Bool, true, false}
-use Prim.Native.Nat.{ℕ, suc, _+_, _≤_, _<_}
+use mathlib.Core.Path.{_≡_, sym, ap, subst, _∙_}
+use mathlib.Core.Bool.{Bool, true}
+use Prim.Native.Nat.{ℕ, suc, _+_, _<_}
 use native.Mathlib.Decide.{ℕ-discrete, decLt}
-use native.Mathlib.Numerals.{add-one}
 use native.Mathlib.Omega.{arith}
 use Rattle.covering.specs.Sum.{pick, sum}
+use Rattle.covering.proofs.Flags.{clash}
 use Rattle.covering.proofs.Sums.{sum-skip, pick-true, pick-false}
 use Rattle.matrix.specs.Sets.{Next}
-
-pub clash : {A : Type 0} {b : Bool} → b ≡ true → b ≡ false → A
-clash e f = absurd (let z : _≡_ {A = ℕ} 0 1 = cc in omega arith)
 
 module _ (p : ℕ → Bool) {end r : ℕ} where
   -- ---- a sum over the members passed

@@ -2,34 +2,20 @@
 -- for covers. Assumes nothing.
 use mathlib.Core.Path.{_≡_, refl, sym, ap, _∙_}
 use mathlib.Core.List.{List}
-use mathlib.Core.Logic.{_⊎_, inl, inr}
 use mathlib.Core.Bool.{Bool, true, false, not, _&&_, _||_, and-true}
 use Prim.Native.Nat.{ℕ, _+_, _≤_, _<_}
 use native.Mathlib.Decide.{decLt, ℕ-discrete}
 use native.Mathlib.Omega.{arith}
 use lib.Dec.{eqb}
-use lib.ListN.{length, getD, List·getD-eq-default}
+use lib.ListN.{length, List·getD-eq-default}
 use borrow.Author.Tests.{eq-eqb, ne-eqb}
 use Rattle.covering.specs.Sum.{pick}
 use Rattle.covering.specs.Cover.{count}
+use Rattle.covering.proofs.Flags.{clash, not-set, kept-of}
 use Rattle.covering.proofs.Sums.{sum-mono, sum-most, sum-with, pick-mono, pick-le}
-use Rattle.covering.proofs.Reductions.{not-set}
 use Rattle.matrix.specs.Sets.{has, member, Member}
 use Rattle.matrix.specs.Matrix.{covers}
 use Rattle.matrix.proofs.Bits.{has-zero}
-use Rattle.matrix.proofs.Walks.{clash}
-
--- ---- a flag that is a, unless b
-
-pub kept-of : (a b : Bool) {r : Bool} → r ≡ (a && not b) → r ≡ true → (a ≡ true) × (b ≡ true → ⊥)
-kept-of true true e h = clash h e
-kept-of true false e h = (refl, λ x. clash x refl)
-kept-of false b e h = clash h e
-
-pub kept-or : (a b : Bool) {r : Bool} → r ≡ (a && not b) → a ≡ true → (b ≡ true) ⊎ (r ≡ true)
-kept-or true true e h = inl refl
-kept-or true false e h = inr e
-kept-or false b e h = clash h refl
 
 -- ---- a row left out
 

@@ -18,6 +18,11 @@ pub record Emptiness (x : ℕ) (b : Bool) : Type 0 where
   pub none : b ≡ true → (c : ℕ) → In x c → ⊥
   pub some : b ≡ false → (c : ℕ) × In x c
 
+-- b tells whether every column of x is one of y
+pub record Inclusion (x y : ℕ) (b : Bool) : Type 0 where
+  pub all : b ≡ true → (c : ℕ) → In x c → In y c
+  pub some : b ≡ false → (c : ℕ) × In x c × (In y c → ⊥)
+
 -- the row i is in the set s: bit i % 64 of word i / 64 is set
 unfoldable pub member : List ℕ → ℕ → Bool
 member s i = has (getD s (i / 64) 0) (i % 64)

@@ -1,9 +1,9 @@
 // Sets of columns: words of 64 bits.
 ghost use mathlib.Core.Path.{_≡_};
-ghost use mathlib.Core.Bool.{true, not, _&&_, _||_};
+ghost use mathlib.Core.Bool.{not, _&&_, _||_};
 ghost use Prim.Native.Nat.{ℕ, _≤_, _<_};
 ghost use lib.Dec.{eqb};
-ghost use Rattle.matrix.specs.Sets.{Emptiness, has, In, Next};
+ghost use Rattle.matrix.specs.Sets.{Emptiness, has, Inclusion, Next};
 
 // Whether a set has the column c.
 pub fn has(set: u64, c: usize) -> bool
@@ -49,9 +49,27 @@ pub fn without(a: u64, b: u64) -> u64
     a ^ (a & b)
 }
 
+// The columns of some words, and those that two of them have.
+pub struct Coverage {
+    pub once: u64,
+    pub twice: u64,
+}
+
+// One word more.
+pub fn with_word(coverage: Coverage, word: u64) -> Coverage
+    ensures once { λ r. ⌜ ((x : ℕ) → has (r .once) x ≡ (has (coverage .once) x || has word x)) ⌝ }
+    ensures twice { λ r. ⌜ ((x : ℕ) → has (r .twice) x ≡ (has (coverage .twice) x || has (coverage .once) x && has word x)) ⌝ }
+{
+    let again = both(coverage.once, word);
+    Coverage {
+        once: either(coverage.once, word),
+        twice: either(coverage.twice, again),
+    }
+}
+
 // Whether every column of a is one of b.
 pub fn inside(a: u64, b: u64) -> bool
-    ensures { λ r. ⌜ (r ≡ true → (x : ℕ) → In a x → In b x) ⌝ }
+    ensures { λ r. ⌜ Inclusion a b r ⌝ }
 {
     a & b == a
 }

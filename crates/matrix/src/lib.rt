@@ -1,5 +1,5 @@
-// The covering matrix on slices: sets of columns are words, sets of rows are arrays of words. Everything above goes through these functions, so that
-// wider words and longer arrays are written here alone.
+// The covering matrix on slices: sets of columns are words, sets of rows are arrays of twelve words. The reductions, the bounds and the search ask and
+// change such sets by these functions alone.
 //
 // A row with the columns 0 and 3, asked for its columns: `columns::next(9, 0)` is 0, `columns::next(9, 1)` is 3 and `columns::next(9, 4)` is 64, the end.
 ghost use mathlib.Core.Path.{_≡_};

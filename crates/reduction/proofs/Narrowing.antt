@@ -1,8 +1,8 @@
 -- Column dominance: the columns that come along with a column are cut down row by row, and then dropped column by column. Assumes nothing.
 use mathlib.Core.Path.{_≡_, refl, sym, ap, _∙_}
 use mathlib.Core.List.{List}
-use mathlib.Core.Logic.{_⊎_, inl, inr, ⊎-elim}
-use mathlib.Core.Bool.{Bool, true, false, not, _&&_}
+use mathlib.Core.Logic.{inl, inr, ⊎-elim}
+use mathlib.Core.Bool.{not, _&&_}
 use Prim.Native.Nat.{ℕ, _+_, _^_, _≤_, _<_}
 use native.Mathlib.Decide.{ℕ-discrete, decLt}
 use native.Mathlib.Omega.{arith}
@@ -10,21 +10,14 @@ use lib.Dec.{eqb}
 use lib.ListN.{length, getD, set, List·getD-eq-default}
 use lib.Seq.{getD-set-same, getD-set-other, set-out}
 use borrow.Author.Tests.{eq-eqb}
-use Rattle.covering.proofs.Reductions.{unchanged, then-kept, drop-columns}
+use Rattle.covering.proofs.Flags.{clash, both-of, of-both, kept-of, kept-or}
+use Rattle.covering.proofs.Reductions.{drop-columns}
 use Rattle.matrix.specs.Sets.{has, In, member, Member, Next}
 use Rattle.matrix.specs.Matrix.{covers, weightOf}
 use Rattle.matrix.proofs.Bits.{has-zero, in-below}
-use Rattle.matrix.proofs.Walks.{clash, all-first, all-turn}
-use Rattle.matrix.proofs.Without.{kept-of, kept-or, each-row}
+use Rattle.matrix.proofs.Walks.{all-first, all-turn}
+use Rattle.matrix.proofs.Without.{each-row}
 use Rattle.reduction.specs.Reduction.{Along, Keeps, Narrowed}
-
--- a flag that is a and b
-both-of : (a b : Bool) {r : Bool} → r ≡ (a && b) → r ≡ true → (a ≡ true) × (b ≡ true)
-both-of true b e h = (refl, sym e ∙ h)
-both-of false b e h = clash h e
-
-pub of-both : {a b r : Bool} → r ≡ (a && b) → a ≡ true → b ≡ true → r ≡ true
-of-both {a} {b} e h k = e ∙ ap (λ (x : Bool). x && b) h ∙ k
 
 -- ---- one row: the columns of the set before c are cut down to the row's
 

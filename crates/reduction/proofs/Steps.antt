@@ -1,22 +1,21 @@
 -- The steps of a reduction on slices: a row dropped, a row taken, one state after the other. Each is the law of covers for the sets that the contracts of
 -- the small operations describe. Assumes nothing.
-use mathlib.Core.Path.{_≡_, refl, sym, ap, subst, _∙_}
+use mathlib.Core.Path.{_≡_, _∙_}
 use mathlib.Core.List.{List, [], _∷_}
 use mathlib.Core.Logic.{inl}
-use mathlib.Core.Bool.{Bool, true, false, not, _&&_, _||_, or-comm}
+use mathlib.Core.Bool.{false, not, _&&_, or-comm}
 use Prim.Native.Nat.{ℕ, _+_, _*_, _^_, _≤_, _<_}
-use native.Mathlib.Nat.{mul-le-mul-right}
 use native.Mathlib.Omega.{arith}
 use lib.Dec.{eqb}
-use lib.ListN.{length, getD}
+use lib.ListN.{getD}
 use Rattle.covering.specs.Cover.{count}
+use Rattle.covering.proofs.Flags.{of-both, kept-of, kept-or}
 use Rattle.covering.proofs.Reductions.{unchanged, then, then-kept, drop-row, take-row}
 use Rattle.matrix.specs.Sets.{has, In, member, Member}
 use Rattle.matrix.specs.Matrix.{covers, weightOf}
-use Rattle.matrix.proofs.Without.{kept-of, kept-or, left-in, left-out, left-rest, left-count, count-fewer, count-most}
-use Rattle.reduction.specs.Reduction.{Keeps, Reduces, Dominates, OneRow, Room, RowTaken, Onward, ReducedTo}
+use Rattle.matrix.proofs.Without.{left-in, left-out, left-rest, left-count, count-fewer, count-most}
+use Rattle.reduction.specs.Reduction.{Keeps, Dominates, OneRow, Room, RowTaken, Onward, ReducedTo}
 use Rattle.reduction.specs.declared.Remaining.{Remaining}
-use Rattle.reduction.proofs.Narrowing.{of-both}
 
 module _ (words weights : List ℕ) where
   -- ---- a row dropped

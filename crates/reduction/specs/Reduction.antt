@@ -20,7 +20,8 @@ abbrev pub Reduces : List ℕ → List ℕ → List ℕ → ℕ → Remaining �
 Reduces words weights live u s =
     Reduced (covers words) (weightOf weights) 768 (Member live) (In u) (Member (s .live)) (In (s .undecided)) (member (s .taken)) (s .cost)
 
--- "A row may be dropped for another": j is another live row that covers all undecided columns of i and weighs no more.
+-- "A chart row may be dropped for another that matches all its undecided columns and tests no more bits": j is another live row that covers all undecided
+-- columns of i and weighs no more.
 pub record Dominates (words weights live : List ℕ) (u i j : ℕ) : Type 0 where
   pub other : j ≡ i → ⊥
   pub lives : Member live j
@@ -36,21 +37,21 @@ pub record Narrowed (along : List ℕ) (word u : ℕ) (along′ : List ℕ) : Ty
   pub less : (c x : ℕ) → In (getD along′ c 0) x → In (getD along c 0) x
   pub cut : (c x : ℕ) → In u c → In word c → In (getD along′ c 0) x → In word x
 
--- "A column left with one row": any two live rows that cover c are the same.
+-- "A column left with one chart row takes it." Any two live rows that cover c are the same.
 abbrev pub OneRow : List ℕ → List ℕ → ℕ → Type 0
 OneRow words live c = (i j : ℕ) → Member live i → Member live j → covers words i c → covers words j c → i ≡ j
 
 -- the columns of the live rows before n: all of them are in `once`, and those of two rows are in `twice`
-pub record Counted (words live : List ℕ) (n once twice : ℕ) : Type 0 where
+pub record CoveredSoFar (words live : List ℕ) (n once twice : ℕ) : Type 0 where
   pub seen : (i : ℕ) → i < n → Member live i → (c : ℕ) → covers words i c → In once c
   pub again : (i : ℕ) → i < n → Member live i → (j : ℕ) → j < i → Member live j → (c : ℕ) → covers words i c → covers words j c → In twice c
 
--- r is the first live row that covers c, or the number of rows n where none does
+-- r is a live row that covers c, unless it is the number of rows n
 pub record FirstRow (words live : List ℕ) (c n r : ℕ) : Type 0 where
   pub within : r ≤ n
   pub here : r < n → Member live r × covers words r c
 
--- the rows taken and the live rows together weigh less than 768 * 2 ^ 32
+-- what the rows taken weigh, and 2 ^ 32 for each live row, are together at most 768 * 2 ^ 32
 abbrev pub Room : Remaining → Type 0
 Room s = s .cost + count 768 (member (s .live)) * 2 ^ 32 ≤ 768 * 2 ^ 32
 

@@ -23,7 +23,7 @@ fn come_along(words: &[u64], live: &[u64; 12], undecided: u64) -> [u64; 64]
     requires { ⌜ length (now words) ≤ 768 ⌝ }
     ensures { λ r. ⌜ Along (now (words .entry)) (now (live .entry)) undecided (length (now (words .entry))) r ⌝ }
 {
-    let mut along = [18446744073709551615u64; 64];
+    let mut along = [u64::MAX; 64];
     let mut i = rows::next(live, 0, words.len());
     while i < words.len() {
         narrow(&mut along, words[i], undecided);

@@ -1,41 +1,24 @@
 // A column left with one row takes it.
 ghost use mathlib.Core.Path.{_≡_};
-ghost use mathlib.Core.Bool.{false, _&&_, _||_};
-ghost use Prim.Native.Nat.{ℕ, _+_, _≤_, _<_};
-ghost use lib.ListN.{length, getD};
+ghost use mathlib.Core.Bool.{false};
+ghost use Prim.Native.Nat.{ℕ, _≤_, _<_};
+ghost use lib.ListN.{length};
 ghost use Rattle.matrix.specs.Matrix.{Sizes};
 ghost use Rattle.matrix.specs.Sets.{has, Member};
-ghost use Rattle.reduction.specs.Reduction.{Counted, FirstRow, OneRow, Onward, Room, RowTaken};
+ghost use Rattle.reduction.specs.Reduction.{FirstRow, OneRow, Onward, Room, RowTaken};
 use crate::Remaining;
 use matrix::columns;
 use matrix::rows;
-
-// The columns of the rows passed, and those of two of them.
-struct Coverage {
-    once: u64,
-    twice: u64,
-}
-
-// One row more.
-fn count_row(coverage: Coverage, word: u64) -> Coverage
-    ensures once { λ r. ⌜ ((x : ℕ) → has (r .once) x ≡ (has (coverage .once) x || has word x)) ⌝ }
-    ensures twice { λ r. ⌜ ((x : ℕ) → has (r .twice) x ≡ (has (coverage .twice) x || has (coverage .once) x && has word x)) ⌝ }
-{
-    Coverage {
-        once: columns::either(coverage.once, word),
-        twice: columns::either(coverage.twice, columns::both(coverage.once, word)),
-    }
-}
 
 // The columns that two or more live rows cover.
 fn covered_twice(words: &[u64], live: &[u64; 12]) -> u64
     requires { ⌜ length (now words) ≤ 768 ⌝ }
     ensures { λ r. ⌜ ((c : ℕ) → has r c ≡ false → OneRow (now (words .entry)) (now (live .entry)) c) ⌝ }
 {
-    let mut coverage = Coverage { once: 0, twice: 0 };
+    let mut coverage = columns::Coverage { once: 0, twice: 0 };
     let mut i = rows::next(live, 0, words.len());
     while i < words.len() {
-        coverage = count_row(coverage, words[i]);
+        coverage = columns::with_word(coverage, words[i]);
         i = rows::next(live, i + 1, words.len());
     }
     coverage.twice

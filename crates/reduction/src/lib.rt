@@ -1,9 +1,7 @@
-// Reductions of a covering problem: row dominance, column dominance, and a column with one row takes it, repeated until nothing changes. What is left has
-// the same lightest covers, up to the rows taken.
+// Reductions of a covering problem: row dominance, column dominance, and a column with one row takes it, repeated until no row is dropped or taken. A
+// lightest cover of what is left, with the rows taken, is a lightest cover of the whole.
 //
 // Rows {0, 1}, {1, 2} and {2}, each of weight 1, for the columns 0, 1 and 2: the third row is dropped for the second, and then both rows are taken.
-ghost use Prim.Native.Nat.{_≤_};
-ghost use lib.ListN.{length};
 ghost use Rattle.matrix.specs.Matrix.{Sizes};
 ghost use Rattle.reduction.specs.Reduction.{Room, Onward, ReducedTo};
 use matrix::rows;

@@ -2,10 +2,9 @@
 // undecided column is dropped for nothing.
 ghost use mathlib.Core.Path.{_≡_};
 ghost use mathlib.Core.Bool.{true};
-ghost use Prim.Native.Nat.{_≤_, _<_};
+ghost use Prim.Native.Nat.{_<_};
 ghost use lib.ListN.{length};
 ghost use Rattle.matrix.specs.Matrix.{Sizes};
-ghost use Rattle.matrix.specs.Sets.{Member};
 ghost use Rattle.reduction.specs.Reduction.{Dominates, Keeps};
 use matrix::columns;
 use matrix::rows;

@@ -1,17 +1,18 @@
 -- A greedy cover: the rows taken so far with any cover of what is left are a cover of the whole. Assumes nothing.
-use mathlib.Core.Path.{_≡_, refl, sym, ap, _∙_}
+use mathlib.Core.Path.{_≡_, sym, ap, _∙_}
 use mathlib.Core.List.{List}
-use mathlib.Core.Bool.{Bool, true, false, _||_, or-assoc, or-comm, or-false}
+use mathlib.Core.Bool.{Bool, false, _||_, or-assoc, or-comm, or-false}
 use Prim.Native.Nat.{ℕ, _+_, _*_, _^_, _≤_, _<_}
 use native.Mathlib.Omega.{arith}
 use lib.Dec.{eqb}
 use lib.ListN.{getD}
 use Rattle.covering.specs.Cover.{Cover}
 use Rattle.covering.specs.Search.{_∪_, none}
+use Rattle.covering.proofs.Flags.{kept-or}
 use Rattle.covering.proofs.Reductions.{cover-same, cover-nothing, cover-with}
 use Rattle.matrix.specs.Sets.{has, In, member, Member}
 use Rattle.matrix.specs.Matrix.{covers, weightOf}
-use Rattle.matrix.proofs.Without.{kept-or, left-in, left-out, count-most}
+use Rattle.matrix.proofs.Without.{left-in, left-out, count-most}
 use Rattle.reduction.specs.Reduction.{Room, RowTaken}
 use Rattle.reduction.specs.declared.Remaining.{Remaining}
 use Rattle.search.specs.Search.{Incumbent}

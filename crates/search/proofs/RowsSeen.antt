@@ -1,7 +1,7 @@
 -- Looking for the best row of a column: the best so far is a live row for it, or none of the live rows passed is one. Assumes nothing.
-use mathlib.Core.Path.{_≡_, refl, sym, subst, _∙_}
+use mathlib.Core.Path.{_≡_, sym, subst, _∙_}
 use mathlib.Core.List.{List}
-use mathlib.Core.Logic.{_⊎_, inl, inr}
+use mathlib.Core.Logic.{inl, inr}
 use Prim.Native.Nat.{ℕ, _+_, _≤_, _<_}
 use native.Mathlib.Omega.{arith}
 use lib.ListN.{length}

@@ -3,7 +3,7 @@ use mathlib.Core.Path.{_≡_}
 use mathlib.Core.List.{List}
 use mathlib.Core.Bool.{_||_}
 use mathlib.Core.Logic.{_⊎_}
-use Prim.Native.Nat.{ℕ, _+_, _≤_, _<_}
+use Prim.Native.Nat.{ℕ, _+_, min, _≤_, _<_}
 use lib.Dec.{eqb}
 use lib.ListN.{length}
 use Rattle.covering.specs.Cover.{Minimum, Cover, rowsOf}
@@ -41,7 +41,19 @@ pub record RowFor (words live : List ℕ) (c n r : ℕ) : Type 0 where
 abbrev pub Preferred : List ℕ → ℕ → ℕ → ℕ → ℕ → ℕ → Type 0
 Preferred words c n i best r = ((r ≡ i) × covers words i c) ⊎ ((r ≡ best) × (covers words i c → best < n))
 
--- The lighter of the incumbent and of the row r, of weight w, with the answer for what it leaves.
-pub record Better (incumbent rest : Answer) (r w : ℕ) (a : Answer) : Type 0 where
-  pub taken : rest .weight + w < incumbent .weight → (a .weight ≡ rest .weight + w) × ((j : ℕ) → member (a .picked) j ≡ (eqb j r || member (rest .picked) j))
-  pub kept : incumbent .weight ≤ rest .weight + w → (a .weight ≡ incumbent .weight) × (a .picked ≡ incumbent .picked)
+-- r is a live row, or the number of rows n where no live row covers some column of u
+pub record Branch (words live : List ℕ) (u n r : ℕ) : Type 0 where
+  pub within : r ≤ n
+  pub here : r < n → Member live r
+  pub nowhere : r ≡ n → (c : ℕ) × In u c × ((i : ℕ) → Member live i → covers words i c → ⊥)
+
+-- the row r, of weight w, with the answer for what it leaves; the weight is at most the limit
+pub record Taking (found : Answer) (r w limit : ℕ) (a : Answer) : Type 0 where
+  pub weight : a .weight ≡ min (found .weight + w) limit
+  pub picked : (j : ℕ) → member (a .picked) j ≡ (eqb j r || member (found .picked) j)
+
+-- the lighter of an incumbent and of the answer of a search below it
+pub record Lighter (incumbent found a : Answer) : Type 0 where
+  pub weight : a .weight ≡ min (incumbent .weight) (found .weight)
+  pub improved : found .weight < incumbent .weight → a .picked ≡ found .picked
+  pub kept : incumbent .weight ≤ found .weight → a .picked ≡ incumbent .picked

@@ -1,4 +1,5 @@
-// What to branch on. Any undecided column and any of its live rows would do: which one is a heuristic.
+// The row to branch on. Any live row would do: which one is a heuristic. This one is the widest for the undecided column whose rows together cover the most
+// columns for their number.
 ghost use mathlib.Core.Path.{_≡_};
 ghost use mathlib.Core.Bool.{false};
 ghost use mathlib.Core.Logic.{_⊎_};
@@ -6,7 +7,7 @@ ghost use Prim.Native.Nat.{ℕ, _^_, _≤_, _<_};
 ghost use lib.ListN.{length};
 ghost use Rattle.matrix.specs.Matrix.{Sizes};
 ghost use Rattle.matrix.specs.Sets.{In};
-ghost use Rattle.search.specs.Search.{Preferred, RowFor};
+ghost use Rattle.search.specs.Search.{Branch, Preferred, RowFor};
 use matrix::columns;
 use matrix::rows;
 
@@ -65,7 +66,7 @@ fn prefer_column(counts: &[u32; 64], near: &[u64; 64], c: usize, best: usize) ->
 }
 
 // The undecided column whose rows together cover the most columns for their number.
-pub fn column(words: &[u64], live: &[u64; 12], undecided: u64) -> usize
+fn column(words: &[u64], live: &[u64; 12], undecided: u64) -> usize
     requires { ⌜ (length (now words) ≤ 768) × ((c : ℕ) × In undecided c) ⌝ }
     ensures { λ r. ⌜ In undecided r ⌝ }
 {
@@ -119,7 +120,7 @@ fn prefer_row(
 }
 
 // The live row for the column c that covers the most undecided columns, or the number of rows where none covers c.
-pub fn row(words: &[u64], weights: &[u32], live: &[u64; 12], undecided: u64, c: usize) -> usize
+fn row(words: &[u64], weights: &[u32], live: &[u64; 12], undecided: u64, c: usize) -> usize
     requires { ⌜ Sizes (now words) (now weights) × (c < 64) ⌝ }
     ensures { λ r. ⌜ RowFor (now (words .entry)) (now (live .entry)) c (length (now (words .entry))) r ⌝ }
 {
@@ -130,4 +131,13 @@ pub fn row(words: &[u64], weights: &[u32], live: &[u64; 12], undecided: u64, c: 
         i = rows::next(live, i + 1, words.len());
     }
     best
+}
+
+// The row to branch on, or the number of rows where no live row covers some undecided column.
+pub fn pick(words: &[u64], weights: &[u32], live: &[u64; 12], undecided: u64) -> usize
+    requires { ⌜ Sizes (now words) (now weights) × ((c : ℕ) × In undecided c) ⌝ }
+    ensures { λ r. ⌜ Branch (now (words .entry)) (now (live .entry)) undecided (length (now (words .entry))) r ⌝ }
+{
+    let c = column(words, live, undecided);
+    row(words, weights, live, undecided, c)
 }

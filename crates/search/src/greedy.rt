@@ -1,7 +1,7 @@
 // A greedy cover: the first incumbent, whose weight is the first limit.
 ghost use mathlib.Core.Path.{_≡_};
 ghost use mathlib.Core.Logic.{_⊎_};
-ghost use Prim.Native.Nat.{_≤_, _<_};
+ghost use Prim.Native.Nat.{_^_, _≤_, _<_};
 ghost use lib.ListN.{length};
 ghost use Rattle.matrix.specs.Matrix.{Sizes};
 ghost use Rattle.matrix.specs.Sets.{Member};
@@ -12,6 +12,9 @@ use matrix::columns;
 use matrix::rows;
 use reduction::Remaining;
 use reduction::forced;
+
+// More than all rows can weigh.
+const NO_COVER: u64 = 1 << 42;
 
 // Whether there is no row j, or the row i covers more of the undecided columns for its weight.
 fn cheaper(words: &[u64], weights: &[u32], undecided: u64, i: usize, j: usize) -> bool
@@ -52,10 +55,10 @@ fn pick(words: &[u64], weights: &[u32], live: &[u64; 12], undecided: u64) -> usi
     best
 }
 
-// A cover of the undecided columns by live rows, or a weight of 2 ^ 42, which is more than all rows can weigh, where this finds none.
+// A cover of the undecided columns by live rows, or the weight 2 ^ 42, where this finds none.
 pub fn cover(words: &[u64], weights: &[u32], live: [u64; 12], undecided: u64) -> Answer
     requires { ⌜ Sizes (now words) (now weights) ⌝ }
-    ensures { λ a. ⌜ Incumbent (now (words .entry)) (now (weights .entry)) live undecided 4398046511104 (a .weight) (a .picked) ⌝ }
+    ensures { λ a. ⌜ Incumbent (now (words .entry)) (now (weights .entry)) live undecided (2 ^ 42) (a .weight) (a .picked) ⌝ }
 {
     let mut state = Remaining {
         live,
@@ -77,7 +80,7 @@ pub fn cover(words: &[u64], weights: &[u32], live: [u64; 12], undecided: u64) ->
         let r = pick(words, weights, &rest, state.undecided);
         if r == words.len() {
             return Answer {
-                weight: 4398046511104,
+                weight: NO_COVER,
                 picked,
                 nodes: 0,
                 depth: 0,

@@ -1,14 +1,13 @@
-// The lightest cover of a covering matrix, by branch and bound: reduce what is left, bound it, choose a row for a column, and reduce again. `reduce` and
+// The lightest cover of a covering matrix, by branch and bound: reduce what is left, bound it, choose a row, and search with it and without it. `reduce` and
 // `choose` call each other, and the number of live rows falls.
 //
 // Rows {0, 1}, {1, 2} and {0, 2}, each of weight 5, for the columns 0, 1 and 2: `minimum_cover(&[3, 6, 5], &[5, 5, 5], 7)` picks two of them, of weight 10.
 ghost use mathlib.Core.Path.{_≡_};
-ghost use mathlib.Core.Bool.{false};
-ghost use Prim.Native.Nat.{ℕ, _-_, _^_, _≤_, _<_};
+ghost use Prim.Native.Nat.{_-_, _^_, min, _<_};
 ghost use lib.ListN.{length};
 ghost use Rattle.matrix.specs.Matrix.{Sizes};
-ghost use Rattle.matrix.specs.Sets.{In, member};
-ghost use Rattle.search.specs.Search.{Better, Coverable, Found, MinimumCover};
+ghost use Rattle.matrix.specs.Sets.{Member};
+ghost use Rattle.search.specs.Search.{Coverable, Found, Lighter, MinimumCover, Taking};
 use matrix::columns;
 use matrix::rows;
 
@@ -30,32 +29,49 @@ fn room(a: u64, b: u64) -> u64
     if b < a { a - b } else { 0 }
 }
 
+fn smaller(a: u64, b: u64) -> u64
+    ensures { λ r. ⌜ r ≡ min a b ⌝ }
+{
+    if a < b { a } else { b }
+}
+
 fn larger(a: u64, b: u64) -> u64 {
     if a < b { b } else { a }
 }
 
-// The lighter of the incumbent and of the row r, of weight w, with the answer for what it leaves.
-fn better(incumbent: Answer, rest: Answer, r: usize, w: u64) -> Answer
-    requires { ⌜ (r < 768) × (w < 2 ^ 32) × (rest .weight < 2 ^ 48) ⌝ }
-    ensures { λ a. ⌜ Better incumbent rest r w a ⌝ }
+// The row r, of weight w, with the answer for what it leaves: a cover, if the weight is below the limit.
+fn taking(found: Answer, r: usize, w: u64, limit: u64) -> Answer
+    requires { ⌜ (r < 768) × (w < 2 ^ 32) × (found .weight < 2 ^ 48) ⌝ }
+    ensures { λ a. ⌜ Taking found r w limit a ⌝ }
 {
-    let weight = rest.weight + w;
-    let nodes = std::num::wrapping_add_u64(incumbent.nodes, rest.nodes);
-    let depth = larger(incumbent.depth, rest.depth);
-    if weight < incumbent.weight {
-        let found = rest.picked;
-        let picked = rows::with_row(found, r);
+    let rest = found.picked;
+    let picked = rows::with_row(rest, r);
+    Answer {
+        weight: smaller(found.weight + w, limit),
+        picked,
+        nodes: found.nodes,
+        depth: found.depth,
+    }
+}
+
+// The lighter of an incumbent and of the answer of a search below it, with what both took.
+fn lighter(incumbent: Answer, found: Answer) -> Answer
+    ensures { λ a. ⌜ Lighter incumbent found a ⌝ }
+{
+    let nodes = std::num::wrapping_add_u64(incumbent.nodes, found.nodes);
+    let depth = larger(incumbent.depth, found.depth);
+    if found.weight < incumbent.weight {
+        let picked = found.picked;
         return Answer {
-            weight,
+            weight: found.weight,
             picked,
             nodes,
             depth,
         };
     }
-    let weight = incumbent.weight;
     let picked = incumbent.picked;
     Answer {
-        weight,
+        weight: incumbent.weight,
         picked,
         nodes,
         depth,
@@ -75,7 +91,7 @@ fn none_below(limit: u64) -> Answer
 }
 
 // The lightest cover of the undecided columns by live rows, if it is below the limit: what is left is reduced and bounded, and then a row is chosen.
-pub fn reduce(words: &[u64], weights: &[u32], live: [u64; 12], undecided: u64, limit: u64) -> Answer
+fn reduce(words: &[u64], weights: &[u32], live: [u64; 12], undecided: u64, limit: u64) -> Answer
     requires { ⌜ Sizes (now words) (now weights) × (limit < 2 ^ 48) ⌝ }
     ensures { λ a. ⌜ Found (now (words .entry)) (now (weights .entry)) live undecided limit (a .weight) (a .picked) ⌝ }
 {
@@ -99,8 +115,11 @@ pub fn reduce(words: &[u64], weights: &[u32], live: [u64; 12], undecided: u64, l
         return none_below(limit);
     }
     let kept = bounded.live;
-    let column = branching::column(words, &kept, rest.undecided);
-    let found = choose(words, weights, kept, rest.undecided, below, column);
+    let row = branching::pick(words, weights, &kept, rest.undecided);
+    if row == words.len() {
+        return none_below(limit);
+    }
+    let found = choose(words, weights, kept, rest.undecided, below, row);
     let picked = found.picked;
     Answer {
         weight: rest.cost + found.weight,
@@ -110,38 +129,25 @@ pub fn reduce(words: &[u64], weights: &[u32], live: [u64; 12], undecided: u64, l
     }
 }
 
-// The same with a row for the undecided column c: each row for it is tried, and is live no more after that.
+// The same by the two branches of a live row r: the lightest cover with it, and one without it if that is lighter still. In both the row is live no more.
 fn choose(
     words: &[u64],
     weights: &[u32],
     live: [u64; 12],
     undecided: u64,
     limit: u64,
-    c: usize,
+    r: usize,
 ) -> Answer
-    requires { ⌜ Sizes (now words) (now weights) × (limit < 2 ^ 48) × In undecided c ⌝ }
+    requires { ⌜ Sizes (now words) (now weights) × (limit < 2 ^ 48) × (r < length (now words)) × Member live r ⌝ }
     ensures { λ a. ⌜ Found (now (words .entry)) (now (weights .entry)) live undecided limit (a .weight) (a .picked) ⌝ }
 {
-    let mut untried = live;
-    let mut incumbent = Answer {
-        weight: limit,
-        picked: rows::none(),
-        nodes: 0,
-        depth: 0,
-    };
-    loop {
-        let best = incumbent.weight;
-        let r = branching::row(words, weights, &untried, undecided, c);
-        if r == words.len() {
-            return incumbent;
-        }
-        let rest = rows::without_row(untried, r);
-        untried = rest;
-        let w = matrix::weight(weights, r);
-        let left = columns::without(undecided, words[r]);
-        let found = reduce(words, weights, untried, left, room(best, w));
-        incumbent = better(incumbent, found, r, w);
-    }
+    let rest = rows::without_row(live, r);
+    let w = matrix::weight(weights, r);
+    let left = columns::without(undecided, words[r]);
+    let found = reduce(words, weights, rest, left, room(limit, w));
+    let incumbent = taking(found, r, w, limit);
+    let other = reduce(words, weights, rest, undecided, incumbent.weight);
+    lighter(incumbent, other)
 }
 
 // The lightest cover of the columns, if each of them has a row.
@@ -152,14 +158,5 @@ pub fn minimum_cover(words: &[u64], weights: &[u32], columns: u64) -> Answer
     let all = rows::below(words.len());
     let first = greedy::cover(words, weights, all, columns);
     let found = reduce(words, weights, all, columns, first.weight);
-    if found.weight < first.weight {
-        return found;
-    }
-    let picked = first.picked;
-    Answer {
-        weight: first.weight,
-        picked,
-        nodes: found.nodes,
-        depth: found.depth,
-    }
+    lighter(first, found)
 }

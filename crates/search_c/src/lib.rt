@@ -1,6 +1,6 @@
 // The search for C: `uint64_t minimum_cover(const uint64_t *words, size_t rows, const uint32_t *weights, size_t same, uint64_t columns, uint64_t *effort)`.
-// It answers the weight of a minimum cover, and 2 ^ 64 - 1 where there are more than 768 rows or not as many weights. The nodes visited and the depth of
-// the calls go into the two places of `effort`, which are left alone where it refuses.
+// Where each column has a row, it answers the weight of a minimum cover. Where there are more than 768 rows or not as many weights, it refuses with
+// 2 ^ 64 - 1 and leaves `effort` alone. Else the nodes visited and the depth of the calls go into the two places of `effort`: nothing is proved of them.
 ghost use Rattle.search_c.specs.Exported.{Exported};
 
 #[no_mangle]
@@ -13,10 +13,10 @@ pub extern "C" fn minimum_cover(
     ensures { λ r. ⌜ Exported (now (words .entry)) (now (weights .entry)) columns (now (effort .entry)) r (now (effort .exit)) ⌝ }
 {
     if 768 < words.len() {
-        return 18446744073709551615;
+        return u64::MAX;
     }
     if weights.len() != words.len() {
-        return 18446744073709551615;
+        return u64::MAX;
     }
     let answer = search::minimum_cover(words, weights, columns);
     effort[0] = answer.nodes;

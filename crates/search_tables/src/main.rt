@@ -122,10 +122,10 @@ fn checked(words: &[u64], weights: &[u32], columns: u64) -> u64
     let picked = answer.picked;
     let found = total(words, weights, &picked);
     if !columns::inside(columns, found.columns) {
-        return 18446744073709551615;
+        return u64::MAX;
     }
     if found.weight != answer.weight {
-        return 18446744073709551615;
+        return u64::MAX;
     }
     answer.weight
 }

@@ -5,7 +5,7 @@ use native.Mathlib.Omega.{arith}
 use lib.ListN.{length}
 use borrow.Author.Needs.{needs}
 use Rattle.essentials.specs.Essentials.{Seen, SoleColumns}
-use Rattle.essentials.proofs.SoleEntries.{seen-none, sole-of}
+use Rattle.essentials.proofs.SoleEntries.{seen-none, seen-more, sole-of}
 use Rattle.essentials.proofs.sole_columns.Statement.{statement}
 use Rattle.essentials.proofs.sole_columns.Tie as tie
 
@@ -36,7 +36,8 @@ loop-less c = omega arith
 loop-again : tie.Need-loop-again Inv-loop μ-loop
 loop-again c =
     let i = c .before .before .before .loop .inv in
-    (i .0, omega arith, c .with-word .ensures (c .before .before .before .before .before .args .words .now) _ refl (i .2))
+    let s = c .before .before .before .loop .seen in
+    (i .0, omega arith, seen-more (c .before .before .before .before .before .args .words .now) _ _ (s .once) (s .twice) _ _ refl (i .2) (c .with-word .ensures .0) (c .with-word .ensures .1))
 
 without-requires : tie.Need-without-requires Inv-loop μ-loop
 without-requires c κs = search needs

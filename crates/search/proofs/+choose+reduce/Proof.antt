@@ -1,5 +1,5 @@
--- The cycle of `choose` and `reduce`. Twice the number of live rows falls: by one from `reduce` to `choose`, and from there to `reduce` by one, since a row
--- that is tried is live no more. `choose` keeps that a cover lighter than the incumbent is one of the untried rows. Assumes nothing.
+-- The cycle of `choose` and `reduce`. Twice the number of live rows falls: by one from `reduce` to `choose`, and from there to `reduce` by one, since the
+-- row that is chosen is live in neither branch. Assumes nothing.
 use borrow.Author.Needs.{needs}
 use borrow.Fn.Kinds.{In}
 use borrow.Fn.PlainCycle.{Measures, is, falls, and}
@@ -7,12 +7,9 @@ use Prim.Native.Nat.{ℕ, _+_, _*_, _<_}
 use native.Mathlib.Omega.{arith}
 use lib.ListN.{length}
 use Rattle.covering.specs.Cover.{count}
-use Rattle.covering.proofs.Choices.{tried-none, tried-all}
 use Rattle.matrix.specs.Sets.{member}
-use Rattle.matrix.specs.Matrix.{covers, weightOf}
-use Rattle.matrix.proofs.Bits.{in-below}
 use Rattle.matrix.proofs.Without.{left-count, count-fewer}
-use Rattle.search.proofs.Turns.{TriedOn, turn, found-spent, found-decided, found-cut, found-chosen}
+use Rattle.search.proofs.Turns.{found-spent, found-decided, found-cut, found-uncoverable, found-chosen, found-branches}
 use Rattle.search.proofs.choose.Reads as choose
 use Rattle.search.proofs.choose.Kinds as choose-kinds
 use Rattle.search.proofs.+choose+reduce.Lts-choose as choose-lts
@@ -23,15 +20,14 @@ use Rattle.bound.proofs.tighten.Reads as tighten-reads
 use Rattle.matrix.proofs.columns.is_empty.Reads as is-empty-reads
 use Rattle.matrix.proofs.columns.without.Reads as without-reads
 use Rattle.matrix.proofs.rows.either.Reads as either-reads
-use Rattle.matrix.proofs.rows.none.Reads as none-reads
 use Rattle.matrix.proofs.rows.without_row.Reads as without-row-reads
 use Rattle.matrix.proofs.weight.Reads as weight-reads
 use Rattle.reduction.proofs.reduce.Reads as reduce-reads
-use Rattle.search.proofs.better.Reads as better-reads
-use Rattle.search.proofs.branching.column.Reads as column-reads
-use Rattle.search.proofs.branching.row.Reads as row-reads
+use Rattle.search.proofs.branching.pick.Reads as pick-reads
+use Rattle.search.proofs.lighter.Reads as lighter-reads
 use Rattle.search.proofs.none_below.Reads as none-below-reads
 use Rattle.search.proofs.room.Reads as room-reads
+use Rattle.search.proofs.taking.Reads as taking-reads
 use Rattle.std.proofs.num.wrapping_add_u64.Reads as wrapping-add-u64-reads
 use Rattle.search.proofs.+choose+reduce.{statement}
 use Rattle.search.proofs.+choose+reduce.Tie.{close}
@@ -41,12 +37,6 @@ abbrev μ-choose : Measures 2 choose-kinds.ps ℕ
 
 abbrev μ-reduce : Measures 2 reduce-kinds.ps ℕ
 μ-reduce κs a = 2 * count 768 (member (a .1 .1 .0)) + 1
-
-abbrev choose-Inv-loop : choose-lts.InvT-loop
-choose-Inv-loop words weights undecided limit c untried₀ incumbent₀ untried incumbent = TriedOn words weights untried₀ undecided limit untried incumbent
-
-abbrev choose-μ-loop : choose-lts.MeasureT-loop
-choose-μ-loop words weights undecided limit c untried₀ incumbent₀ untried incumbent = count 768 (member untried)
 
 module _ (t : ℕ) where
   -- what each member assumes, and what the callees ask and tell
@@ -65,10 +55,6 @@ module _ (t : ℕ) where
 
   abbrev choose-claims : choose-lts.Claims
   choose-claims = (
-    none-reads.Asked,
-    none-reads.Learnt,
-    row-reads.Asked,
-    row-reads.Learnt,
     without-row-reads.Asked,
     without-row-reads.Learnt,
     weight-reads.Asked,
@@ -79,8 +65,10 @@ module _ (t : ℕ) where
     room-reads.Learnt,
     reduce-below,
     reduce.Post,
-    better-reads.Asked,
-    better-reads.Learnt,
+    taking-reads.Asked,
+    taking-reads.Learnt,
+    lighter-reads.Asked,
+    lighter-reads.Learnt,
   )
 
   abbrev reduce-claims : reduce-lts.Claims
@@ -93,8 +81,8 @@ module _ (t : ℕ) where
     is-empty-reads.Learnt,
     tighten-reads.Asked,
     tighten-reads.Learnt,
-    column-reads.Asked,
-    column-reads.Learnt,
+    pick-reads.Asked,
+    pick-reads.Learnt,
     choose-below,
     choose.Post,
     either-reads.Asked,
@@ -103,116 +91,102 @@ module _ (t : ℕ) where
     wrapping-add-u64-reads.Learnt,
   )
 
-  choose-none-requires : choose-lts.Need-none-requires choose-claims choose-at choose.Post choose-Inv-loop choose-μ-loop
-  choose-none-requires c κs = tt
+  choose-without-row-requires : choose-lts.Need-without-row-requires choose-claims choose-at choose.Post
+  choose-without-row-requires c κs = search needs
 
-  choose-loop-holds : choose-lts.Need-loop-holds choose-claims choose-at choose.Post choose-Inv-loop choose-μ-loop
-  choose-loop-holds c = tried-none (covers (c .before .before .before .args .words .now)) (weightOf (c .before .before .before .args .weights .now)) 768 _
+  choose-weight-requires : choose-lts.Need-weight-requires choose-claims choose-at choose.Post
+  choose-weight-requires c κs = search needs
 
-  choose-row-requires : choose-lts.Need-row-requires choose-claims choose-at choose.Post choose-Inv-loop choose-μ-loop
-  choose-row-requires c κs =
-      let s = c .before .before .before .before .before in
-      (s .pre .1 .0, in-below (s .args .undecided) (s .args .c) 64 (s .fits .undecided .fits) (s .pre .1 .2))
+  choose-mul-without : choose-lts.Need-mul-without choose-claims choose-at choose.Post
+  choose-mul-without c = search needs
 
-  choose-returns : choose-lts.Need-returns choose-claims choose-at choose.Post choose-Inv-loop choose-μ-loop
-  choose-returns c =
-      let s = c .before .before .before .before .before .before .before in
-      tried-all (covers (s .args .words .now)) (weightOf (s .args .weights .now)) 768 (s .args .c) (s .pre .1 .2) (c .before .row .ensures .nowhere (c .if1 .taken)) (c .before .before .before .loop .inv)
+  choose-shared-slice-read-without : choose-lts.Need-shared-slice-read-without choose-claims choose-at choose.Post
+  choose-shared-slice-read-without c = search needs
 
-  choose-without-row-requires : choose-lts.Need-without-row-requires choose-claims choose-at choose.Post choose-Inv-loop choose-μ-loop
-  choose-without-row-requires c κs = omega (arith, c .before .row .ensures .within, c .if1 .left, c .before .before .before .before .before .before .before .pre .1 .0 .few)
+  choose-without-requires : choose-lts.Need-without-requires choose-claims choose-at choose.Post
+  choose-without-requires c κs = search needs
 
-  choose-weight-requires : choose-lts.Need-weight-requires choose-claims choose-at choose.Post choose-Inv-loop choose-μ-loop
-  choose-weight-requires c κs = omega (arith, c .before .before .row .ensures .within, c .before .if1 .left, c .before .before .before .before .before .before .before .before .pre .1 .0 .same)
+  choose-room-requires : choose-lts.Need-room-requires choose-claims choose-at choose.Post
+  choose-room-requires c κs = search needs
 
-  choose-mul-without : choose-lts.Need-mul-without choose-claims choose-at choose.Post choose-Inv-loop choose-μ-loop
-  choose-mul-without c = omega (arith, c .before .before .before .row .ensures .within, c .before .before .if1 .left, c .before .before .before .before .before .before .before .before .before .pre .1 .0 .few)
-
-  choose-shared-slice-read-without : choose-lts.Need-shared-slice-read-without choose-claims choose-at choose.Post choose-Inv-loop choose-μ-loop
-  choose-shared-slice-read-without c = omega (arith, c .before .before .before .before .row .ensures .within, c .before .before .before .if1 .left)
-
-  choose-without-requires : choose-lts.Need-without-requires choose-claims choose-at choose.Post choose-Inv-loop choose-μ-loop
-  choose-without-requires c κs = tt
-
-  choose-room-requires : choose-lts.Need-room-requires choose-claims choose-at choose.Post choose-Inv-loop choose-μ-loop
-  choose-room-requires c κs = tt
-
-  choose-reduce-requires : choose-lts.Need-reduce-requires choose-claims choose-at choose.Post choose-Inv-loop choose-μ-loop
+  choose-reduce-requires : choose-lts.Need-reduce-requires choose-claims choose-at choose.Post
   choose-reduce-requires c κs =
-      let s = c .before .before .before .before .before .before .before .before .before .before .before .before in
-      let r = c .before .before .before .before .before .before .row in
-      let l : r .result < length (s .args .words .now) = omega (arith, r .ensures .within, c .before .before .before .before .before .if1 .left) in
-      let i = c .before .before .before .before .before .before .before .before .loop in (
-        omega (arith, s .pre .0, count-fewer 768 _ (i .untried) (i .inv .fewer), left-count _ _ _ (c .before .before .before .before .without-row .ensures) 768 (omega (arith, s .pre .1 .0 .few)) (r .ensures .here l .0)),
-        (s .pre .1 .0, omega (arith, c .room .ensures, i .inv .within, s .pre .1 .1)),
+      let s = c .before .before .before .before .before .before .before in (
+        omega (arith, left-count _ _ _ (c .before .before .before .before .without-row .ensures) 768 (omega arith) (s .pre .1 .3)),
+        (s .pre .1 .0, omega arith),
       )
 
-  choose-better-requires : choose-lts.Need-better-requires choose-claims choose-at choose.Post choose-Inv-loop choose-μ-loop
-  choose-better-requires c κs =
-      let s = c .before .before .before .before .before .before .before .before .before .before .before .before .before in (
-        omega (arith, c .before .before .before .before .before .before .before .row .ensures .within, c .before .before .before .before .before .before .if1 .left, s .pre .1 .0 .few),
-        c .before .before .before .before .weight .ensures .1,
-        omega (arith, c .reduce .ensures .within, c .before .room .ensures, c .before .before .before .before .before .before .before .before .before .loop .inv .within, s .pre .1 .1),
+  choose-taking-requires : choose-lts.Need-taking-requires choose-claims choose-at choose.Post
+  choose-taking-requires c κs =
+      let s = c .before .before .before .before .before .before .before .before in
+      (omega arith, c .before .before .before .before .weight .ensures .1, omega arith)
+
+  choose-reduce-requires-2 : choose-lts.Need-reduce-requires-2 choose-claims choose-at choose.Post
+  choose-reduce-requires-2 c κs =
+      let s = c .before .before .before .before .before .before .before .before .before in (
+        omega (arith, left-count _ _ _ (c .before .before .before .before .before .before .without-row .ensures) 768 (omega arith) (s .pre .1 .3)),
+        (s .pre .1 .0, omega arith),
       )
 
-  choose-loop-less : choose-lts.Need-loop-less choose-claims choose-at choose.Post choose-Inv-loop choose-μ-loop
-  choose-loop-less c =
-      let s = c .before .before .before .before .before .before .before .before .before .before .before .before .before .before in
-      let r = c .before .before .before .before .before .before .before .before .row in
-      let l : r .result < length (s .args .words .now) = omega (arith, r .ensures .within, c .before .before .before .before .before .before .before .if1 .left) in
-      omega (arith, left-count _ _ _ (c .before .before .before .before .before .before .without-row .ensures) 768 (omega (arith, s .pre .1 .0 .few)) (r .ensures .here l .0))
+  choose-lighter-requires : choose-lts.Need-lighter-requires choose-claims choose-at choose.Post
+  choose-lighter-requires c κs = search needs
 
-  choose-loop-again : choose-lts.Need-loop-again choose-claims choose-at choose.Post choose-Inv-loop choose-μ-loop
-  choose-loop-again c =
-      let s = c .before .before .before .before .before .before .before .before .before .before .before .before .before .before in
-      let r = c .before .before .before .before .before .before .before .before .row in
-      let l : r .result < length (s .args .words .now) = omega (arith, r .ensures .within, c .before .before .before .before .before .before .before .if1 .left) in
-      turn (s .args .words .now) (s .args .weights .now) _ _ _ _ _ _ _ _ _ _ _ _ (omega (arith, s .pre .1 .0 .few)) (r .ensures .here l .0) (c .before .before .before .before .before .weight .ensures .0) (c .before .before .room .ensures)
-      (c .before .before .before .before .before .before .without-row .ensures) (c .before .before .before .without .ensures) (c .before .reduce .ensures) (c .better .ensures) (c .before .before .before .before .before .before .before .before .before .before .loop .inv)
+  choose-returns : choose-lts.Need-returns choose-claims choose-at choose.Post
+  choose-returns c =
+      let s = c .before .before .before .before .before .before .before .before .before .before .before in
+      found-branches (s .args .words .now) (s .args .weights .now) _ _ _ _ _ _ _ _ _ _ (omega arith) (s .pre .1 .3) (c .before .before .before .before .before .before .before .weight .ensures .0) (c .before .before .before .before .room .ensures)
+      (c .before .before .before .before .before .before .before .before .without-row .ensures) (c .before .before .before .before .before .without .ensures) (c .before .before .before .reduce .ensures) (c .before .before .taking .ensures) _ _ (c .before .reduce2 .ensures) (c .lighter .ensures)
 
   reduce-reduce-requires : reduce-lts.Need-reduce-requires reduce-claims reduce-at reduce.Post
   reduce-reduce-requires c κs = c .before .before .pre .1 .0
 
   reduce-none-below-requires : reduce-lts.Need-none-below-requires reduce-claims reduce-at reduce.Post
-  reduce-none-below-requires c κs = tt
+  reduce-none-below-requires c κs = search needs
 
   reduce-returns : reduce-lts.Need-returns reduce-claims reduce-at reduce.Post
   reduce-returns c = found-spent _ _ _ _ _ _ (c .before .before .before .reduce .ensures) _ _ (c .before .if1 .taken) (c .none-below .ensures)
 
   reduce-is-empty-requires : reduce-lts.Need-is-empty-requires reduce-claims reduce-at reduce.Post
-  reduce-is-empty-requires c κs = tt
+  reduce-is-empty-requires c κs = search needs
 
   reduce-returns-2 : reduce-lts.Need-returns-2 reduce-claims reduce-at reduce.Post
   reduce-returns-2 c = found-decided _ _ _ _ _ _ (c .before .before .before .before .before .reduce .ensures) (c .before .before .before .if1 .left) (c .before .is-empty .ensures .none (c .if2 .taken))
 
   reduce-sub-below : reduce-lts.Need-sub-below reduce-claims reduce-at reduce.Post
-  reduce-sub-below c = omega (arith, c .before .before .before .before .if1 .left)
+  reduce-sub-below c = search needs
 
   reduce-tighten-requires : reduce-lts.Need-tighten-requires reduce-claims reduce-at reduce.Post
-  reduce-tighten-requires c κs = (c .before .before .before .before .before .before .before .before .before .before .pre .1 .0, omega (arith, c .before .before .before .before .before .before .before .before .before .before .pre .1 .1))
+  reduce-tighten-requires c κs = search needs
 
   reduce-none-below-requires-2 : reduce-lts.Need-none-below-requires-2 reduce-claims reduce-at reduce.Post
-  reduce-none-below-requires-2 c κs = tt
+  reduce-none-below-requires-2 c κs = search needs
 
   reduce-returns-3 : reduce-lts.Need-returns-3 reduce-claims reduce-at reduce.Post
   reduce-returns-3 c = found-cut _ _ _ _ _ _ (c .before .before .before .before .before .before .before .before .before .before .before .reduce .ensures) _ _ (c .before .before .before .before .before .before .before .before .before .if1 .left) (c .before .before .before .tighten .ensures) _ _ (c .before .if3 .taken) (c .none-below2 .ensures)
 
-  reduce-column-requires : reduce-lts.Need-column-requires reduce-claims reduce-at reduce.Post
-  reduce-column-requires c κs = (c .before .before .before .before .before .before .before .before .before .before .before .before .before .before .before .pre .1 .0 .few, c .before .before .before .before .before .before .before .before .is-empty .ensures .some (c .before .before .before .before .before .before .before .if2 .left))
+  reduce-pick-requires : reduce-lts.Need-pick-requires reduce-claims reduce-at reduce.Post
+  reduce-pick-requires c κs = (c .before .before .before .before .before .before .before .before .before .before .before .before .before .before .before .pre .1 .0, c .before .before .before .before .before .before .before .before .is-empty .ensures .some (c .before .before .before .before .before .before .before .if2 .left))
+
+  reduce-none-below-requires-3 : reduce-lts.Need-none-below-requires-3 reduce-claims reduce-at reduce.Post
+  reduce-none-below-requires-3 c κs = search needs
+
+  reduce-returns-4 : reduce-lts.Need-returns-4 reduce-claims reduce-at reduce.Post
+  reduce-returns-4 c = found-uncoverable _ _ _ _ _ _ (c .before .before .before .before .before .before .before .before .before .before .before .before .before .before .before .reduce .ensures) _ _ (c .before .before .before .before .before .before .before .before .before .before .before .before .before .if1 .left) (c .before .before .before .before .before .before .before .tighten .ensures) _ _ _ _ (c .before .before .pick .ensures) (c .before .if4 .taken) (c .none-below3 .ensures)
 
   reduce-choose-requires : reduce-lts.Need-choose-requires reduce-claims reduce-at reduce.Post
   reduce-choose-requires c κs =
-      let s = c .before .before .before .before .before .before .before .before .before .before .before .before .before .before .before .before in
-      let r = c .before .before .before .before .before .before .before .before .before .before .before .before .before .reduce in (
-        omega (arith, s .pre .0, count-fewer 768 _ (r .result .live) (r .ensures .reduced .fewer), count-fewer 768 _ (c .before .before .before .before .before .tighten .result .live) (c .before .before .before .before .before .tighten .ensures .kept .fewer)),
-        (s .pre .1 .0, omega (arith, s .pre .1 .1), c .column .ensures),
+      let s = c .before .before .before .before .before .before .before .before .before .before .before .before .before .before .before .before .before in
+      let r = c .before .before .before .before .before .before .before .before .before .before .before .before .before .before .reduce in
+      let l : c .before .pick .result < length (s .args .words .now) = omega arith in (
+        omega (arith, count-fewer 768 _ (r .result .live) (r .ensures .reduced .fewer), count-fewer 768 _ (c .before .before .before .before .before .before .tighten .result .live) (c .before .before .before .before .before .before .tighten .ensures .kept .fewer)),
+        (s .pre .1 .0, omega arith, l, c .before .pick .ensures .here l),
       )
 
-  reduce-add-t19 : reduce-lts.Need-add-t19 reduce-claims reduce-at reduce.Post
-  reduce-add-t19 c = omega (arith, c .before .before .before .choose .ensures .within, c .before .before .before .before .before .before .before .before .before .before .before .before .before .before .before .if1 .left, c .before .before .before .before .before .before .before .before .before .before .before .before .before .before .before .before .before .before .before .before .pre .1 .1)
+  reduce-add-t20 : reduce-lts.Need-add-t20 reduce-claims reduce-at reduce.Post
+  reduce-add-t20 c = omega (arith, c .before .before .before .before .before .before .before .before .before .before .before .before .before .before .before .before .if1 .left, c .before .before .before .before .before .before .before .before .before .before .before .before .before .before .before .before .before .before .before .before .before .pre .1 .1)
 
   reduce-either-requires : reduce-lts.Need-either-requires reduce-claims reduce-at reduce.Post
-  reduce-either-requires c κs = tt
+  reduce-either-requires c κs = search needs
 
   reduce-wrapping-add-u64-requires : reduce-lts.Need-wrapping-add-u64-requires reduce-claims reduce-at reduce.Post
   reduce-wrapping-add-u64-requires c κs = search needs
@@ -220,17 +194,13 @@ module _ (t : ℕ) where
   reduce-wrapping-add-u64-requires-2 : reduce-lts.Need-wrapping-add-u64-requires-2 reduce-claims reduce-at reduce.Post
   reduce-wrapping-add-u64-requires-2 c κs = search needs
 
-  reduce-returns-4 : reduce-lts.Need-returns-4 reduce-claims reduce-at reduce.Post
-  reduce-returns-4 c = found-chosen _ _ _ _ _ _ (c .before .before .before .before .before .before .before .before .before .before .before .before .before .before .before .before .before .before .before .before .reduce .ensures) _ _ (c .before .before .before .before .before .before .before .before .before .before .before .before .before .before .before .before .before .before .if1 .left) (c .before .before .before .before .before .before .before .before .before .before .before .before .tighten .ensures) _ _ _ (c .before .before .before .before .before .before .choose .ensures) (c .before .before .either .ensures)
+  reduce-returns-5 : reduce-lts.Need-returns-5 reduce-claims reduce-at reduce.Post
+  reduce-returns-5 c = found-chosen _ _ _ _ _ _ (c .before .before .before .before .before .before .before .before .before .before .before .before .before .before .before .before .before .before .before .before .before .reduce .ensures) _ _ (c .before .before .before .before .before .before .before .before .before .before .before .before .before .before .before .before .before .before .before .if1 .left) (c .before .before .before .before .before .before .before .before .before .before .before .before .before .tighten .ensures) _ _ _ (c .before .before .before .before .before .before .choose .ensures) (c .before .before .either .ensures)
 
 pub +choose+reduce-spec : {M : Type 1} → statement M
 +choose+reduce-spec =
     close μ-choose μ-reduce
-    (λ t. choose-lts.spec (choose-claims t) (choose-at t) choose.Post choose-Inv-loop choose-μ-loop
-    (choose-none-requires t)
-    (choose-loop-holds t)
-    (choose-row-requires t)
-    (choose-returns t)
+    (λ t. choose-lts.spec (choose-claims t) (choose-at t) choose.Post
     (choose-without-row-requires t)
     (choose-weight-requires t)
     (choose-mul-without t)
@@ -238,9 +208,10 @@ pub +choose+reduce-spec : {M : Type 1} → statement M
     (choose-without-requires t)
     (choose-room-requires t)
     (choose-reduce-requires t)
-    (choose-better-requires t)
-    (choose-loop-less t)
-    (choose-loop-again t))
+    (choose-taking-requires t)
+    (choose-reduce-requires-2 t)
+    (choose-lighter-requires t)
+    (choose-returns t))
     λ t. reduce-lts.spec (reduce-claims t) (reduce-at t) reduce.Post
     (reduce-reduce-requires t)
     (reduce-none-below-requires t)
@@ -251,10 +222,12 @@ pub +choose+reduce-spec : {M : Type 1} → statement M
     (reduce-tighten-requires t)
     (reduce-none-below-requires-2 t)
     (reduce-returns-3 t)
-    (reduce-column-requires t)
+    (reduce-pick-requires t)
+    (reduce-none-below-requires-3 t)
+    (reduce-returns-4 t)
     (reduce-choose-requires t)
-    (reduce-add-t19 t)
+    (reduce-add-t20 t)
     (reduce-either-requires t)
     (reduce-wrapping-add-u64-requires t)
     (reduce-wrapping-add-u64-requires-2 t)
-    (reduce-returns-4 t)
+    (reduce-returns-5 t)

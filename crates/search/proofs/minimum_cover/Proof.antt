@@ -1,7 +1,8 @@
 -- `search::minimum_cover` meets its contract: the greedy cover bounds the search from above, and the lighter of the two is a minimum cover. Assumes nothing.
 use borrow.Author.Needs.{needs}
+use Prim.Native.Nat.{_^_}
 use native.Mathlib.Omega.{arith}
-use Rattle.search.proofs.Turns.{whole, found-lighter, found-first}
+use Rattle.search.proofs.Turns.{whole, found-lighter}
 use Rattle.search.proofs.minimum_cover.Statement.{statement}
 use Rattle.search.proofs.minimum_cover.Tie as tie
 
@@ -14,20 +15,16 @@ cover-requires c κs = search needs
 reduce-requires : tie.Need-reduce-requires
 reduce-requires c κs = search needs
 
+lighter-requires : tie.Need-lighter-requires
+lighter-requires c κs = search needs
+
 returns : tie.Need-returns
 returns c =
-    let s = c .before .before .before .before .before .before .before .before in
+    let s = c .before .before .before .before .before .before in
     let a = s .args in
-    whole (a .words .now) (a .weights .now) (c .before .before .before .before .before .below .result) (a .columns) 4398046511104 _ _ (s .pre .few) (λ i. omega (arith, c .before .before .before .before .before .before .shared-slice-known2 .given i)) (c .before .before .before .before .before .below .ensures)
-    (omega arith) (found-lighter (a .words .now) (a .weights .now) _ _ _ _ _ _ _ (c .before .before .before .before .cover .ensures) (c .before .before .before .reduce .ensures) (c .if1 .taken))
-
-returns-2 : tie.Need-returns-2
-returns-2 c =
-    let s = c .before .before .before .before .before .before .before .before .before in
-    let a = s .args in
-    whole (a .words .now) (a .weights .now) (c .before .before .before .before .before .before .below .result) (a .columns) 4398046511104 _ _ (s .pre .few) (λ i. omega (arith, c .before .before .before .before .before .before .before .shared-slice-known2 .given i)) (c .before .before .before .before .before .before .below .ensures)
-    (omega arith) (found-first (a .words .now) (a .weights .now) _ _ _ _ _ _ _ (c .before .before .before .before .before .cover .ensures) (c .before .before .before .before .reduce .ensures) (c .before .if1 .left))
+    whole (a .words .now) (a .weights .now) (c .before .before .before .below .result) (a .columns) (2 ^ 42) _ _ (s .pre .few) (λ i. omega (arith, c .before .before .before .before .shared-slice-known2 .given i)) (c .before .before .before .below .ensures)
+    (omega arith) (found-lighter (a .words .now) (a .weights .now) _ _ _ _ _ _ (c .before .before .cover .ensures) (c .before .reduce .ensures) (c .lighter .ensures))
 
 pub minimum-cover-spec : {M : Type 1} → statement M
 minimum-cover-spec =
-    tie.close (tie.spec below-requires cover-requires reduce-requires returns returns-2)
+    tie.close (tie.spec below-requires cover-requires reduce-requires lighter-requires returns)

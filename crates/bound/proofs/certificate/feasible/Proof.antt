@@ -1,13 +1,13 @@
 -- `bound::certificate::feasible` meets its contract. The invariant: each live row before i pays. Assumes nothing.
 use borrow.Author.Needs.{needs}
 use mathlib.Core.Path.{refl}
-use mathlib.Core.Bool.{true}
 use Prim.Native.Nat.{ℕ, _≤_, _<_, _-_}
 use native.Mathlib.Omega.{arith}
 use lib.ListN.{length}
 use borrow.Author.Tests.{not-false}
 use Rattle.matrix.specs.Sets.{Member}
-use Rattle.matrix.proofs.Walks.{clash, all-first, all-turn}
+use Rattle.covering.proofs.Flags.{clash}
+use Rattle.matrix.proofs.Walks.{all-first, all-turn}
 use Rattle.bound.specs.Bound.{Pays}
 use Rattle.bound.proofs.certificate.feasible.Statement.{statement}
 use Rattle.bound.proofs.certificate.feasible.Tie as tie

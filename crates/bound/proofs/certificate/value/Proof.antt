@@ -7,7 +7,6 @@ use lib.ListN.{getD}
 use Rattle.covering.specs.Sum.{pick, sum}
 use Rattle.matrix.specs.Sets.{has, In}
 use Rattle.matrix.proofs.Walks.{sum-first, sum-turn}
-use Rattle.bound.specs.Bound.{worth}
 use Rattle.bound.proofs.certificate.value.Statement.{statement}
 use Rattle.bound.proofs.certificate.value.Tie as tie
 

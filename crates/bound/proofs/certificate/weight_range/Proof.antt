@@ -14,6 +14,9 @@ Inv-loop words weights live least₀ most₀ i₀ least most i = (i ≤ length w
 abbrev μ-loop : tie.MeasureT-loop
 μ-loop words weights live least₀ most₀ i₀ least most i = length words - i
 
+cast-least : tie.Need-cast-least Inv-loop μ-loop
+cast-least c = search needs
+
 next-requires : tie.Need-next-requires Inv-loop μ-loop
 next-requires c κs = search needs
 
@@ -65,6 +68,7 @@ weight-range-spec =
     (tie.spec
     Inv-loop
     μ-loop
+    cast-least
     next-requires
     loop-holds
     weight-requires

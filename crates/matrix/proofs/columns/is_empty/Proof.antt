@@ -3,9 +3,9 @@ use mathlib.Core.Path.{ap, _∙_}
 use Prim.Native.Nat.{ℕ}
 use native.Mathlib.Omega.{arith}
 use borrow.Author.Tests.{eqb-true, eqb-false}
+use Rattle.covering.proofs.Flags.{clash}
 use Rattle.matrix.specs.Sets.{has}
 use Rattle.matrix.proofs.Bits.{has-zero, lowest-in}
-use Rattle.matrix.proofs.Walks.{clash}
 use Rattle.matrix.proofs.columns.is_empty.Statement.{statement}
 use Rattle.matrix.proofs.columns.is_empty.Tie as tie
 

@@ -4,7 +4,7 @@ use borrow.Author.Needs.{needs}
 use mathlib.Core.List.{List}
 use Prim.Native.Nat.{ℕ, _≤_, _<_, _-_}
 use Rattle.matrix.specs.Sets.{has, In}
-use Rattle.matrix.proofs.Without.{kept-of}
+use Rattle.covering.proofs.Flags.{kept-of}
 use Rattle.reduction.specs.Reduction.{Keeps}
 use Rattle.reduction.proofs.Narrowing.{drop-along}
 use Rattle.reduction.proofs.Steps.{keeps-all, keeps-then}

@@ -1,15 +1,14 @@
 -- `reduction::forced::covered_twice` meets its contract. The invariant: the columns of the live rows before i are counted. Assumes nothing.
 use borrow.Author.Needs.{needs}
 use Prim.Native.Nat.{_≤_, _-_}
-use native.Mathlib.Omega.{arith}
 use lib.ListN.{length}
-use Rattle.reduction.specs.Reduction.{Counted}
-use Rattle.reduction.proofs.Counting.{counted-none, counted-more, counted-all}
+use Rattle.reduction.specs.Reduction.{CoveredSoFar}
+use Rattle.reduction.proofs.Counting.{covered-none, covered-more, covered-all}
 use Rattle.reduction.proofs.forced.covered_twice.Statement.{statement}
 use Rattle.reduction.proofs.forced.covered_twice.Tie as tie
 
 abbrev Inv-loop : tie.InvT-loop
-Inv-loop words live coverage₀ i₀ coverage i = (i ≤ length words) × Counted words live i (coverage .once) (coverage .twice)
+Inv-loop words live coverage₀ i₀ coverage i = (i ≤ length words) × CoveredSoFar words live i (coverage .once) (coverage .twice)
 
 abbrev μ-loop : tie.MeasureT-loop
 μ-loop words live coverage₀ i₀ coverage i = length words - i
@@ -18,16 +17,16 @@ next-requires : tie.Need-next-requires Inv-loop μ-loop
 next-requires c κs = search needs
 
 loop-holds : tie.Need-loop-holds Inv-loop μ-loop
-loop-holds c = (search needs, counted-none _ _ (c .next .ensures))
+loop-holds c = (search needs, covered-none _ _ (c .next .ensures))
 
-mul-count-row : tie.Need-mul-count-row Inv-loop μ-loop
-mul-count-row c = search needs
+mul-with-word : tie.Need-mul-with-word Inv-loop μ-loop
+mul-with-word c = search needs
 
-shared-slice-read-count-row : tie.Need-shared-slice-read-count-row Inv-loop μ-loop
-shared-slice-read-count-row c = search needs
+shared-slice-read-with-word : tie.Need-shared-slice-read-with-word Inv-loop μ-loop
+shared-slice-read-with-word c = search needs
 
-count-row-requires : tie.Need-count-row-requires Inv-loop μ-loop
-count-row-requires c κs = search needs
+with-word-requires : tie.Need-with-word-requires Inv-loop μ-loop
+with-word-requires c κs = search needs
 
 add-next : tie.Need-add-next Inv-loop μ-loop
 add-next c = search needs
@@ -40,11 +39,11 @@ loop-less c = search needs
 
 loop-again : tie.Need-loop-again Inv-loop μ-loop
 loop-again c =
-    let n = c .before .count-row .ensures in
-    (search needs, counted-more _ _ (c .next2 .ensures) (n .0) (n .1) (c .before .before .before .before .loop .inv .1))
+    let n = c .before .with-word .ensures in
+    (search needs, covered-more _ _ (c .next2 .ensures) (n .0) (n .1) (c .before .before .before .before .loop .inv .1))
 
 returns : tie.Need-returns Inv-loop μ-loop
-returns c = counted-all (c .before .before .before .before .args .words .now) (c .before .before .before .before .args .live .now) (c .loop-test .left) (c .before .loop .inv .1)
+returns c = covered-all (c .before .before .before .before .args .words .now) (c .before .before .before .before .args .live .now) (c .loop-test .left) (c .before .loop .inv .1)
 
 pub covered-twice-spec : {M : Type 1} → statement M
 covered-twice-spec =
@@ -54,9 +53,9 @@ covered-twice-spec =
     μ-loop
     next-requires
     loop-holds
-    mul-count-row
-    shared-slice-read-count-row
-    count-row-requires
+    mul-with-word
+    shared-slice-read-with-word
+    with-word-requires
     add-next
     next-requires-2
     loop-less

@@ -2,9 +2,8 @@
 -- are no more than at the start. Assumes nothing.
 use borrow.Author.Needs.{needs}
 use Prim.Native.Nat.{_≤_, _<_, _-_}
-use Rattle.covering.proofs.Reductions.{not-set}
+use Rattle.covering.proofs.Flags.{not-set, kept-of}
 use Rattle.matrix.specs.Sets.{has, In}
-use Rattle.matrix.proofs.Without.{kept-of}
 use Rattle.reduction.specs.Reduction.{Onward}
 use Rattle.reduction.proofs.Steps.{onward-none, onward-then}
 use Rattle.reduction.proofs.forced.take_forced.Statement.{statement}

@@ -3,8 +3,7 @@ use borrow.Author.Needs.{needs}
 use mathlib.Core.Path.{refl, sym, _∙_}
 use native.Mathlib.Omega.{arith}
 use borrow.Author.Tests.{not-false}
-use Rattle.matrix.proofs.Walks.{clash}
-use Rattle.reduction.proofs.Narrowing.{of-both}
+use Rattle.covering.proofs.Flags.{clash, of-both}
 use Rattle.reduction.proofs.row_dominance.dominates.Statement.{statement}
 use Rattle.reduction.proofs.row_dominance.dominates.Tie as tie
 
@@ -55,7 +54,7 @@ returns-4 c = λ e. record {
   other = c .before .before .before .before .if2 .left;
   lives = sym (c .has .ensures) ∙ e;
   light = omega (arith, c .before .if3 .left);
-  inside = λ x h k. c .before .before .before .before .before .before .inside .ensures (not-false _ (c .before .before .before .before .before .if1 .left)) x (of-both (c .before .before .before .before .before .before .before .before .both .ensures x) k h);
+  inside = λ x h k. c .before .before .before .before .before .before .inside .ensures .all (not-false _ (c .before .before .before .before .before .if1 .left)) x (of-both (c .before .before .before .before .before .before .before .before .both .ensures x) k h);
 }
 
 pub dominates-spec : {M : Type 1} → statement M

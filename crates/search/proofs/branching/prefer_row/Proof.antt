@@ -3,7 +3,7 @@ use borrow.Author.Needs.{needs}
 use mathlib.Core.Logic.{inl, inr}
 use mathlib.Core.Path.{refl, sym, _∙_}
 use borrow.Author.Tests.{not-true, not-false}
-use Rattle.matrix.proofs.Walks.{clash}
+use Rattle.covering.proofs.Flags.{clash}
 use Rattle.search.proofs.branching.prefer_row.Statement.{statement}
 use Rattle.search.proofs.branching.prefer_row.Tie as tie
 

@@ -1,7 +1,6 @@
 -- `search::branching::row` meets its contract. The invariant: the best so far is a live row for the column, or none before i is. Assumes nothing.
 use borrow.Author.Needs.{needs}
 use Prim.Native.Nat.{_≤_, _<_, _-_}
-use native.Mathlib.Omega.{arith}
 use lib.ListN.{length}
 use Rattle.matrix.specs.Sets.{Member}
 use Rattle.search.proofs.RowsSeen.{SoFar, seen-none, seen-more, seen-all}

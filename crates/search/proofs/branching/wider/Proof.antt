@@ -1,7 +1,7 @@
 -- `search::branching::wider` meets its contract: it answers false only past the first test. Assumes nothing.
 use borrow.Author.Needs.{needs}
 use mathlib.Core.Path.{refl}
-use Rattle.matrix.proofs.Walks.{clash}
+use Rattle.covering.proofs.Flags.{clash}
 use Rattle.search.proofs.branching.wider.Statement.{statement}
 use Rattle.search.proofs.branching.wider.Tie as tie
 
