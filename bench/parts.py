@@ -51,6 +51,11 @@ ZERO = """    let ascent = dual::from_zero(words, weights, &live, undecided);
     let rest = first.live;
 """
 IMPROVE = "    improve(words, &by_column, &mut prices, &mut slack, undecided);\n"
+NEXT = """let next = branching::pick(words, weights, &rest, undecided);
+    if next == words.len() {
+        return incumbent;
+    }
+    let other = choose(words, weights, rest, undecided, incumbent.weight, next);"""
 NO_SHARE = [(TIGHTEN, SHARE, "    first\n")]
 NO_IMPROVEMENT = [(DUAL, IMPROVE, "")]
 NO_ROUNDING = [(CERTIFICATE, "rounded(words, weights, &live, total);", "total;")]
@@ -67,6 +72,7 @@ VARIANTS = {
     "no-rounding-no-fixing": NO_ROUNDING + NO_FIXING,
     "zero-alone": NO_SHARE + NO_IMPROVEMENT + NO_ROUNDING + NO_FIXING,
     "no-bound": [(TIGHTEN, "    let ascent", "    if 0 < limit {\n        return certificate::Bounded { low: 0, live };\n    }\n    let ascent")],
+    "second-branch-not-reduced": [(SEARCH, "let other = reduce(words, weights, rest, undecided, incumbent.weight);", NEXT)],
     "no-greedy": [(SEARCH, "all, columns, first.weight);", "all, columns, 4398046511104);")],
     "fewest-rows": [(BRANCHING, "denser(brings, counts[c], brought, counts[best])", "counts[c] < counts[best]")],
 }
