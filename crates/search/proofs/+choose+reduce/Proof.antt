@@ -9,7 +9,7 @@ use lib.ListN.{length}
 use Rattle.covering.specs.Cover.{count}
 use Rattle.matrix.specs.Sets.{member}
 use Rattle.matrix.proofs.Without.{left-count, count-fewer}
-use Rattle.search.proofs.Turns.{found-spent, found-decided, found-cut, found-uncoverable, found-chosen, found-branches}
+use Rattle.search.proofs.Branches.{found-spent, found-decided, found-cut, found-uncoverable, found-chosen, found-branches}
 use Rattle.search.proofs.choose.Reads as choose
 use Rattle.search.proofs.choose.Kinds as choose-kinds
 use Rattle.search.proofs.+choose+reduce.Lts-choose as choose-lts

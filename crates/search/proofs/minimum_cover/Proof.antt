@@ -2,7 +2,7 @@
 use borrow.Author.Needs.{needs}
 use Prim.Native.Nat.{_^_}
 use native.Mathlib.Omega.{arith}
-use Rattle.search.proofs.Turns.{whole, found-lighter}
+use Rattle.search.proofs.Branches.{whole, found-lighter}
 use Rattle.search.proofs.minimum_cover.Statement.{statement}
 use Rattle.search.proofs.minimum_cover.Tie as tie
 

@@ -66,11 +66,11 @@ module _ (words weights : List ℕ) where
     where
       go : Dec (found .weight < incumbent .weight) → Found words weights live u limit (a .weight) (a .picked)
       go (yes l) =
-          let e : a .weight ≡ found .weight = omega (arith, s .weight) in
-          rw (e, s .improved l) (record { low = below .low; within = omega (arith, first .within); cover = λ m. below .cover l })
+          let e : a .weight ≡ found .weight = omega arith in
+          rw (e, s .improved l) (record { low = below .low; within = omega arith; cover = λ m. below .cover l })
       go (no n) =
           let l : incumbent .weight ≤ found .weight = omega arith in
-          let e : a .weight ≡ incumbent .weight = omega (arith, s .weight) in
+          let e : a .weight ≡ incumbent .weight = omega arith in
           rw (e, s .kept l) (record { low = smaller (covers words) l (below .low); within = first .within; cover = first .cover })
 
   -- ---- the two branches of a row
@@ -81,10 +81,10 @@ module _ (words weights : List ℕ) where
     -- the row with the answer for what it leaves
     with-row : Incumbent words weights live u limit (a .weight) (a .picked)
     with-row = record {
-      within = omega (arith, s .weight);
-      cover = λ m. cover-same (covers words) (weightOf weights) 768 (s .picked) (omega (arith, s .weight))
+      within = omega arith;
+      cover = λ m. cover-same (covers words) (weightOf weights) 768 (s .picked) (omega arith)
           (cover-with (covers words) (weightOf weights) 768 r l is (left-out live rest r e) (left-in live rest r e)
-          (λ c x. kept-or (has u c) (has (getD words r 0) c) (d c) x) (f .cover (omega (arith, s .weight))));
+          (λ c x. kept-or (has u c) (has (getD words r 0) c) (d c) x) (f .cover (omega arith)));
     }
 
     -- the lighter of that and of the answer without the row
@@ -93,7 +93,7 @@ module _ (words weights : List ℕ) where
     found-branches other b x =
         found-lighter live u limit a other b with-row
         (answer-without (covers words) (weightOf weights) 768 r (left-in live rest r e) (left-rest live rest r e) (λ c x. kept-of (has u c) (has (getD words r 0) c) (d c) x)
-        (f .low) (omega (arith, s .weight)) x)
+        (f .low) (omega arith) x)
 
   -- where each column has a row, that is a minimum cover
   pub whole : (all : List ℕ) (columns limit k : ℕ) (p : List ℕ) → length words ≤ 768 → ((i : ℕ) → weightOf weights i < 2 ^ 32) → ((j : ℕ) → member all j ≡ ltb j (length words))
