@@ -1,19 +1,22 @@
 -- What Plan's promise leaves open of the counts: nothing. On each of the cases a to j the answer is the case's rows and bits, whatever the arrays held,
--- and so wrong answers are shut out, each on a named case. Assumes nothing.
+-- and so wrong answers are shut out, each on a named case. Then wrong arrays and wrong refusals. Assumes nothing.
 use mathlib.Core.Path.{_≡_, refl, sym, ap, ap₂, _∙_}
-use mathlib.Core.List.{List}
-use Prim.Native.Nat.{ℕ}
+use mathlib.Core.List.{List, [], _∷_}
+use Prim.Native.Nat.{ℕ, zero, suc}
 use native.Mathlib.Omega.{arith}
-use lib.ListN.{length}
-use Rattle.cube.specs.Below.{some, run}
+use lib.ListN.{length, getD}
+use Rattle.cube.specs.Below.{every, some, run}
+use Rattle.cube.specs.Words.{rowMatches, coverMatches, rowsOf, implements, cubeOf}
 use Rattle.cube.specs.Calls.{badCell, Answer, gives, refuses, answered}
-use Rattle.cube.specs.Cases.{Case, tableOf, Holds, case-a, case-b, case-e, case-f, case-g, case-j, cases}
+use Rattle.cube.specs.Cases.{Case, among, tableOf, Holds, case-a, case-b, case-e, case-f, case-g, case-h, case-j, cases}
 use Rattle.cube.proofs.Cases.{all-cases}
 use Rattle.cube.proofs.Minimum.{shortest}
-use Rattle.plan.specs.Plan.{planRefuses, Totals, totalsOf, planAnswer, Plans}
+use Rattle.plan.specs.Plan.{planRefuses, Totals, totalsOf, planAnswer, ascendsFrom, Plans}
+use Rattle.plan.specs.Theorems.{Held}
 use Rattle.plan.specs.declared.Planned.{Planned}
 use Rattle.plan.specs.declared.Planned.the-variants.{Rows, Refused}
-use Rattle.plan.proofs.Answers.{accepted-refused}
+use Rattle.plan.proofs.Answers.{accepted-refused, refused-by}
+use Rattle.plan.proofs.Theorems.{arrays-hold}
 
 abbrev rowsIn : Answer Totals → ℕ
 rowsIn (gives a) = a .rows
@@ -93,3 +96,50 @@ unfolding run some badCell
 four-with-64-places values cares values′ cares′ v w p =
     let enough : planRefuses 6 (run 64 0 (λ c. 0)) 64 64 ≡ 0 = refl in
     accepted-refused 6 (run 64 0 (λ c. 0)) values cares values′ cares′ 4 p (ap₂ (λ (i j : ℕ). planRefuses 6 (run 64 0 (λ c. 0)) i j) v w ∙ enough)
+
+-- ---- wrong arrays
+
+-- the two rows of h, 10-0 and -00-, in descending order, whatever stands behind them
+pub descending : (values cares values′ cares′ : List ℕ) (r : Planned) → planRefuses 4 (tableOf case-h) (length values) (length cares) ≡ 0
+    → Plans 4 (tableOf case-h) values cares (0 ∷ 8 ∷ values′) (6 ∷ 11 ∷ cares′) r → ⊥
+unfolding run among tableOf every rowsOf rowMatches coverMatches implements cubeOf ascendsFrom
+descending values cares values′ cares′ r e p =
+    let d = arrays-hold 4 (tableOf case-h) values cares (0 ∷ 8 ∷ values′) (6 ∷ 11 ∷ cares′) .accepted r e p in
+    go (d .rows) (d .bits) (d .held)
+  where
+    go : (rows bits : ℕ) → Held 4 (tableOf case-h) values cares (0 ∷ 8 ∷ values′) (6 ∷ 11 ∷ cares′) rows bits → ⊥
+    go zero bits h = h .minimum .right
+    go (suc zero) bits h = h .minimum .right
+    go (suc (suc rows)) bits h = h .is-ascending
+
+-- the place past the one row of b changed
+pub place-past-count : Plans 1 (tableOf case-b) (7 ∷ 7 ∷ []) (7 ∷ 7 ∷ []) (0 ∷ 0 ∷ []) (0 ∷ 7 ∷ []) (Rows 1 0) → ⊥
+place-past-count p =
+    let h = arrays-hold 1 (tableOf case-b) (7 ∷ 7 ∷ []) (7 ∷ 7 ∷ []) (0 ∷ 0 ∷ []) (0 ∷ 7 ∷ []) .counted 1 0 p in
+    let z : _≡_ {A = ℕ} 0 7 = ap (λ (l : List ℕ). getD l 0 0) (h .values-behind) in
+    omega arith
+
+-- ---- wrong refusals
+
+-- a place written though the width is refused
+pub written-on-refusal : (r : Planned) → Plans 0 (1 ∷ []) (7 ∷ []) (7 ∷ []) (0 ∷ []) (7 ∷ []) r → ⊥
+written-on-refusal r p = let z : _≡_ {A = ℕ} 0 7 = ap (λ (l : List ℕ). getD l 0 0) (p .values-are) in omega arith
+
+-- 4 for 63 places at width 6, though a cell is 3
+pub four-before-three : (values cares values′ cares′ : List ℕ) → length values ≡ 63 → length cares ≡ 63
+    → Plans 6 (run 64 0 (λ c. 3)) values cares values′ cares′ (Refused 4) → ⊥
+unfolding run some badCell
+four-before-three values cares values′ cares′ v w p =
+    let three : planRefuses 6 (run 64 0 (λ c. 3)) 63 63 ≡ 3 = refl in
+    let z : _≡_ {A = ℕ} 3 4 = sym three ∙ sym (ap₂ (λ (i j : ℕ). planRefuses 6 (run 64 0 (λ c. 3)) i j) v w) ∙ refused-by 6 (run 64 0 (λ c. 3)) values cares values′ cares′ 4 p in
+    omega arith
+
+-- 3 for a cell of a table that has 63 cells at width 6
+pub three-before-two : (values cares values′ cares′ : List ℕ) → Plans 6 (run 63 0 (λ c. 3)) values cares values′ cares′ (Refused 3) → ⊥
+unfolding run
+three-before-two values cares values′ cares′ p =
+    let z : _≡_ {A = ℕ} 2 3 = refused-by 6 (run 63 0 (λ c. 3)) values cares values′ cares′ 3 p in omega arith
+
+-- 2 for a table of one cell at width 7
+pub two-before-one : (values cares values′ cares′ : List ℕ) → Plans 7 (1 ∷ []) values cares values′ cares′ (Refused 2) → ⊥
+two-before-one values cares values′ cares′ p = let z : _≡_ {A = ℕ} 1 2 = refused-by 7 (1 ∷ []) values cares values′ cares′ 2 p in omega arith
