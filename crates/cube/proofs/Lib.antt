@@ -16,3 +16,4 @@ pub mod Lists
 pub mod McCluskey
 pub mod Covers
 pub mod Minimum
+pub mod Basis

@@ -79,6 +79,7 @@ module _ (n : ℕ) where
 
   pub positions : Positions n
   positions = record {
+    digits = digit-weight;
     matches = λ q c. (
       λ h k v. let e : n - k < n = omega (arith, v .0, v .1) in subst⁻¹ T (sym (ap₂ fits (digit-is k q) (bit-is k c))) (places-of n q c h (n - k) e),
       λ f. of-places n q c (by-variables q c f),

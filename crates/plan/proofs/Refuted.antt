@@ -5,10 +5,10 @@ use mathlib.Core.List.{List, [], _∷_}
 use Prim.Native.Nat.{ℕ, zero, suc}
 use native.Mathlib.Omega.{arith}
 use lib.ListN.{length, getD}
-use Rattle.cube.specs.Below.{every, some, run}
+use Rattle.cube.specs.Below.{every, some, among, run}
 use Rattle.cube.specs.Words.{rowMatches, coverMatches, rowsOf, implements, cubeOf}
 use Rattle.cube.specs.Calls.{badCell, Answer, gives, refuses, answered}
-use Rattle.cube.specs.Cases.{Case, among, tableOf, Holds, case-a, case-b, case-e, case-f, case-g, case-h, case-j, cases}
+use Rattle.cube.specs.Cases.{Case, tableOf, Holds, case-a, case-b, case-e, case-f, case-g, case-h, case-j, cases}
 use Rattle.cube.proofs.Cases.{all-cases}
 use Rattle.cube.proofs.Minimum.{shortest}
 use Rattle.plan.specs.Plan.{planRefuses, Totals, totalsOf, planAnswer, ascendsFrom, Plans}
