@@ -1,16 +1,16 @@
 -- Document 000's basis rows belong to the shortest lists: the theorem `Basis` of `specs/McCluskey.antt`. A selection of rows is a right list of primes,
 -- and each row of a right list lies within a prime that tests no more bits, so a right list gives a selection with as many rows. Assumes nothing.
-use mathlib.Core.Path.{_≡_, refl, sym, ap, _∙_, subst, subst⁻¹}
-use mathlib.Core.Logic.{inl, inr, ⊎-elim}
+use mathlib.Core.Path.{_≡_, refl, subst, subst⁻¹}
+use mathlib.Core.Logic.{⊎-elim}
 use mathlib.Core.List.{List, [], _∷_, map}
 use Prim.Native.Nat.{ℕ, _^_, _<_, _≤_}
 use native.Mathlib.Omega.{arith}
 use lib.Dec.{T, eqb, eqb→eq, eqb-refl}
 use lib.ListN.{length, length-map}
 use Rattle.cube.specs.Below.{among}
-use Rattle.cube.specs.Words.{onSet, offSet, Row, Cover, rowMatches, formed, eachRow, allFormed, coverMatches, coverLiterals, implements, cubeMatches, rowOf, numberOf, implicant, prime}
+use Rattle.cube.specs.Words.{Cover, rowMatches, formed, eachRow, allFormed, coverMatches, coverLiterals, cubeMatches, rowOf, numberOf, implicant, prime}
 use Rattle.cube.specs.Minimum.{Minimum, EquivalentSum, FewestTerms}
-use Rattle.cube.specs.McCluskey.{PrimeImplicant, SingleAsterisk, Selection, BasisRows, sumOf, Basis}
+use Rattle.cube.specs.McCluskey.{SingleAsterisk, Selection, BasisRows, sumOf, Basis}
 use Rattle.cube.proofs.Bools.{and-l, and-r, and-i, or-e, or-l, or-r}
 use Rattle.cube.proofs.Digits.{contained-matches, contained-literals}
 use Rattle.cube.proofs.Implicants.{implicant-at, prime-implicant, prime-above}

@@ -2,7 +2,7 @@
 -- and each recursion of the words goes through the places 0 to n - 1. Assumes nothing.
 use mathlib.Core.Path.{_≡_, refl, sym, ap, ap₂, _∙_, subst⁻¹}
 use mathlib.Core.Bool.{Bool}
-use Prim.Native.Nat.{ℕ, zero, suc, _+_, _*_, _-_, _^_, _/_, _%_, _<_, _≤_}
+use Prim.Native.Nat.{ℕ, zero, suc, _+_, _-_, _/_, _%_, _<_}
 use native.Mathlib.Nat.{not-suc-le-zero, le-of-suc-le-suc}
 use native.Mathlib.Omega.{arith}
 use lib.Dec.{T, eqb}
