@@ -1,1 +1,2 @@
+-- Sole entries make primes essential.
 pub mod SoleEntries

@@ -1,1 +1,2 @@
+-- What the steps of Essentials hold.
 pub mod Essentials

@@ -1,5 +1,5 @@
 -- Wrong answers of Primes that its promise shuts out, each on a named case, where no edit of the code keeps its shape. Assumes nothing.
-use mathlib.Core.Path.{_≡_, ap, _∙_}
+use mathlib.Core.Path.{_≡_, ap}
 use mathlib.Core.List.{List, [], _∷_}
 use Prim.Native.Nat.{ℕ}
 use native.Mathlib.Omega.{arith}
