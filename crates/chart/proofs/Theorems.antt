@@ -1,12 +1,11 @@
 -- The theorem of `specs/Theorems.antt`, from the law of words. Assumes nothing.
 use mathlib.Core.Path.{subst}
-use mathlib.Core.Bool.{_&&_}
 use mathlib.Core.List.{List}
 use Prim.Native.Nat.{ℕ, _^_}
 use lib.Dec.{T, ltb, ltb→lt}
 use Rattle.cube.specs.Words.{onSet, cubeMatches}
 use Rattle.cube.proofs.Bools.{and-l, and-r}
-use Rattle.chart.specs.Columns.{column, columnsOf}
+use Rattle.chart.specs.Columns.{column}
 use Rattle.chart.specs.Theorems.{WordTells}
 use Rattle.chart.proofs.Words.{word-lt, has-word}
 

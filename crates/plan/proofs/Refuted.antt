@@ -7,8 +7,9 @@ use native.Mathlib.Omega.{arith}
 use lib.ListN.{length, getD}
 use Rattle.cube.specs.Below.{every, some, among, run}
 use Rattle.cube.specs.Words.{rowMatches, coverMatches, rowsOf, implements, cubeOf}
-use Rattle.cube.specs.Calls.{badCell, Answer, gives, refuses, answered}
+use Rattle.cube.specs.Calls.{badCell, gives, answered}
 use Rattle.cube.specs.Cases.{Case, tableOf, Holds, case-a, case-b, case-e, case-f, case-g, case-h, case-j, cases}
+use Rattle.cube.proofs.Calls.{same-value}
 use Rattle.cube.proofs.Cases.{all-cases}
 use Rattle.cube.proofs.Minimum.{shortest}
 use Rattle.plan.specs.Plan.{planRefuses, Totals, totalsOf, planAnswer, ascendsFrom, Plans}
@@ -18,17 +19,13 @@ use Rattle.plan.specs.declared.Planned.the-variants.{Rows, Refused}
 use Rattle.plan.proofs.Answers.{accepted-refused, refused-by}
 use Rattle.plan.proofs.Theorems.{arrays-hold}
 
-abbrev rowsIn : Answer Totals → ℕ
-rowsIn (gives a) = a .rows
-rowsIn (refuses k) = 0
-
-abbrev bitsIn : Answer Totals → ℕ
-bitsIn (gives a) = a .bits
-bitsIn (refuses k) = 0
+-- the rows and bits of a case
+abbrev countsOf : Case → Totals
+countsOf k = record { rows = k .rows; bits = k .bits }
 
 -- the answer on a case that is not refused
 pub answer-on : (k : Case) → Holds k → (values cares values′ cares′ : List ℕ) (r : Planned) → planRefuses (k .width) (tableOf k) (length values) (length cares) ≡ 0
-    → Plans (k .width) (tableOf k) values cares values′ cares′ r → planAnswer r ≡ gives (record { rows = k .rows; bits = k .bits })
+    → Plans (k .width) (tableOf k) values cares values′ cares′ r → planAnswer r ≡ gives (countsOf k)
 answer-on k h values cares values′ cares′ r e p =
     let same = shortest (k .width) (tableOf k) .counts (p .list) (h .list) (p .minimum e) (h .minimum) in
     p .answer ∙ ap (λ (i : ℕ). answered i (totalsOf (k .width) (p .list))) e
@@ -37,11 +34,14 @@ answer-on k h values cares values′ cares′ r e p =
 -- ---- wrong answers on named cases, for any arrays with places enough
 
 module _ (k : Case) (h : Holds k) (values cares values′ cares′ : List ℕ) (e : planRefuses (k .width) (tableOf k) (length values) (length cares) ≡ 0) where
+  counts : (rows bits : ℕ) → Plans (k .width) (tableOf k) values cares values′ cares′ (Rows rows bits) → record { rows = rows; bits = bits } ≡ countsOf k
+  counts rows bits p = same-value (record { rows = rows; bits = bits }) (countsOf k) (answer-on k h values cares values′ cares′ (Rows rows bits) e p)
+
   other-rows : (rows bits : ℕ) → (rows ≡ k .rows → ⊥) → Plans (k .width) (tableOf k) values cares values′ cares′ (Rows rows bits) → ⊥
-  other-rows rows bits d p = d (ap rowsIn (answer-on k h values cares values′ cares′ (Rows rows bits) e p))
+  other-rows rows bits d p = d (ap (λ (x : Totals). x .rows) (counts rows bits p))
 
   other-bits : (rows bits : ℕ) → (bits ≡ k .bits → ⊥) → Plans (k .width) (tableOf k) values cares values′ cares′ (Rows rows bits) → ⊥
-  other-bits rows bits d p = d (ap bitsIn (answer-on k h values cares values′ cares′ (Rows rows bits) e p))
+  other-bits rows bits d p = d (ap (λ (x : Totals). x .bits) (counts rows bits p))
 
 module _ (values cares values′ cares′ : List ℕ) where
   -- all eight primes on j
@@ -86,7 +86,7 @@ unfolding cases
 one-fixed-answer values cares values′ cares′ r d e p q =
     let on-a = answer-on case-a (all-cases .0) values cares values′ cares′ r d p in
     let on-b = answer-on case-b (all-cases .1 .0) values cares values′ cares′ r e q in
-    let z : _≡_ {A = ℕ} 0 1 = ap rowsIn (sym on-a ∙ on-b) in
+    let z : _≡_ {A = ℕ} 0 1 = ap (λ (x : Totals). x .rows) (same-value (countsOf case-a) (countsOf case-b) (sym on-a ∙ on-b)) in
     omega arith
 
 -- 4 with 64 places in each array, at width 6 with nothing wanted
