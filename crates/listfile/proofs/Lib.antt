@@ -1,1 +1,2 @@
+-- The file by positions.
 pub mod Theorems
