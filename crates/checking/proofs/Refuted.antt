@@ -3,16 +3,13 @@ use mathlib.Core.Path.{_≡_}
 use mathlib.Core.List.{List, [], _∷_}
 use Prim.Native.Nat.{ℕ}
 use native.Mathlib.Omega.{arith}
-use Rattle.cube.specs.Below.{some, run}
+use lib.ListN.{replicate}
+use Rattle.cube.specs.Below.{some}
 use Rattle.cube.specs.Words.{rowsOf}
 use Rattle.cube.specs.Calls.{badCell}
 use Rattle.cube.proofs.Calls.{answered-refuses}
 use Rattle.checking.specs.Check.{checkRefuses, verdict, checkOf, checkAnswer}
 use Rattle.checking.specs.declared.Checked.the-variants.{Refused}
-
--- so many places that hold x
-abbrev places : ℕ → ℕ → List ℕ
-places m x = run m 0 (λ i. x)
 
 refused-with : (n : ℕ) (t vs ws : List ℕ) (k : ℕ) → checkAnswer (Refused k) ≡ checkOf n t vs ws → checkRefuses n t vs ws ≡ k
 refused-with n t vs ws k e = answered-refuses k (checkRefuses n t vs ws) (verdict n t (rowsOf vs ws)) e .0
@@ -31,11 +28,11 @@ unfolding some badCell
 five-before-three vs ws e = let z : _≡_ {A = ℕ} 3 5 = refused-with 1 (1 ∷ 3 ∷ []) vs ws 5 e in omega arith
 
 -- 6 for 256 values, where there are 257 cares
-pub six-before-five : checkAnswer (Refused 6) ≡ checkOf 1 (0 ∷ 0 ∷ []) (places 256 0) (places 257 0) → ⊥
-unfolding some badCell run
-six-before-five e = let z : _≡_ {A = ℕ} 5 6 = refused-with 1 (0 ∷ 0 ∷ []) (places 256 0) (places 257 0) 6 e in omega arith
+pub six-before-five : checkAnswer (Refused 6) ≡ checkOf 1 (0 ∷ 0 ∷ []) (replicate 256 0) (replicate 257 0) → ⊥
+unfolding some badCell
+six-before-five e = let z : _≡_ {A = ℕ} 5 6 = refused-with 1 (0 ∷ 0 ∷ []) (replicate 256 0) (replicate 257 0) 6 e in omega arith
 
 -- 7 for 256 rows with care 2 at width 1
-pub seven-before-six : checkAnswer (Refused 7) ≡ checkOf 1 (0 ∷ 0 ∷ []) (places 256 0) (places 256 2) → ⊥
-unfolding some badCell run rowsOf
-seven-before-six e = let z : _≡_ {A = ℕ} 6 7 = refused-with 1 (0 ∷ 0 ∷ []) (places 256 0) (places 256 2) 7 e in omega arith
+pub seven-before-six : checkAnswer (Refused 7) ≡ checkOf 1 (0 ∷ 0 ∷ []) (replicate 256 0) (replicate 256 2) → ⊥
+unfolding some badCell rowsOf
+seven-before-six e = let z : _≡_ {A = ℕ} 6 7 = refused-with 1 (0 ∷ 0 ∷ []) (replicate 256 0) (replicate 256 2) 7 e in omega arith

@@ -3,17 +3,12 @@ use mathlib.Core.Path.{_≡_}
 use mathlib.Core.List.{List, [], _∷_}
 use Prim.Native.Nat.{ℕ}
 use native.Mathlib.Omega.{arith}
-use lib.ListN.{length}
-use Rattle.cube.specs.Below.{run}
+use lib.ListN.{length, replicate}
 use Rattle.cube.specs.Words.{formed, eachRow, rowsOf}
 use Rattle.cube.specs.Calls.{Listed}
 use Rattle.cube.specs.declared.Counted.the-variants.{Refused}
 use Rattle.cube.proofs.Calls.{answered-refuses}
 use Rattle.listfile.specs.Write.{fileOf, writeRefuses}
-
--- so many places that hold x
-abbrev places : ℕ → ℕ → List ℕ
-places m x = run m 0 (λ i. x)
 
 module _ (old new : List ℕ) where
   refused-with : (n : ℕ) (vs ws : List ℕ) (k : ℕ) → Listed (writeRefuses n vs ws (length old)) (fileOf n vs ws) old new (Refused k)
@@ -25,14 +20,13 @@ module _ (old new : List ℕ) where
   five-before-one vs ws p = let z : _≡_ {A = ℕ} 1 5 = refused-with 7 vs ws 5 p in omega arith
 
   -- 6 for 256 values, where there are 257 cares
-  pub six-before-five : Listed (writeRefuses 1 (places 256 0) (places 257 0) (length old)) (fileOf 1 (places 256 0) (places 257 0)) old new (Refused 6) → ⊥
-  unfolding run
-  six-before-five p = let z : _≡_ {A = ℕ} 5 6 = refused-with 1 (places 256 0) (places 257 0) 6 p in omega arith
+  pub six-before-five : Listed (writeRefuses 1 (replicate 256 0) (replicate 257 0) (length old)) (fileOf 1 (replicate 256 0) (replicate 257 0)) old new (Refused 6) → ⊥
+  six-before-five p = let z : _≡_ {A = ℕ} 5 6 = refused-with 1 (replicate 256 0) (replicate 257 0) 6 p in omega arith
 
   -- 7 for 256 rows with care 2 at width 1
-  pub seven-before-six : Listed (writeRefuses 1 (places 256 0) (places 256 2) (length old)) (fileOf 1 (places 256 0) (places 256 2)) old new (Refused 7) → ⊥
-  unfolding run rowsOf
-  seven-before-six p = let z : _≡_ {A = ℕ} 6 7 = refused-with 1 (places 256 0) (places 256 2) 7 p in omega arith
+  pub seven-before-six : Listed (writeRefuses 1 (replicate 256 0) (replicate 256 2) (length old)) (fileOf 1 (replicate 256 0) (replicate 256 2)) old new (Refused 7) → ⊥
+  unfolding rowsOf
+  seven-before-six p = let z : _≡_ {A = ℕ} 6 7 = refused-with 1 (replicate 256 0) (replicate 256 2) 7 p in omega arith
 
   -- 4 for a buffer of any length, where the row has care 2 at width 1
   pub four-before-seven : Listed (writeRefuses 1 (0 ∷ []) (2 ∷ []) (length old)) (fileOf 1 (0 ∷ []) (2 ∷ [])) old new (Refused 4) → ⊥

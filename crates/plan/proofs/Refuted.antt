@@ -4,7 +4,7 @@ use mathlib.Core.Path.{_≡_, refl, sym, ap, ap₂, _∙_}
 use mathlib.Core.List.{List, [], _∷_}
 use Prim.Native.Nat.{ℕ, zero, suc}
 use native.Mathlib.Omega.{arith}
-use lib.ListN.{length, getD}
+use lib.ListN.{length, getD, replicate}
 use Rattle.cube.specs.Below.{every, some, among, run}
 use Rattle.cube.specs.Words.{rowMatches, coverMatches, rowsOf, implements, cubeOf}
 use Rattle.cube.specs.Calls.{badCell, gives, answered}
@@ -91,11 +91,11 @@ one-fixed-answer values cares values′ cares′ r d e p q =
 
 -- 4 with 64 places in each array, at width 6 with nothing wanted
 pub four-with-64-places : (values cares values′ cares′ : List ℕ) → length values ≡ 64 → length cares ≡ 64
-    → Plans 6 (run 64 0 (λ c. 0)) values cares values′ cares′ (Refused 4) → ⊥
-unfolding run some badCell
+    → Plans 6 (replicate 64 0) values cares values′ cares′ (Refused 4) → ⊥
+unfolding some badCell
 four-with-64-places values cares values′ cares′ v w p =
-    let enough : planRefuses 6 (run 64 0 (λ c. 0)) 64 64 ≡ 0 = refl in
-    accepted-refused 6 (run 64 0 (λ c. 0)) values cares values′ cares′ 4 p (ap₂ (λ (i j : ℕ). planRefuses 6 (run 64 0 (λ c. 0)) i j) v w ∙ enough)
+    let enough : planRefuses 6 (replicate 64 0) 64 64 ≡ 0 = refl in
+    accepted-refused 6 (replicate 64 0) values cares values′ cares′ 4 p (ap₂ (λ (i j : ℕ). planRefuses 6 (replicate 64 0) i j) v w ∙ enough)
 
 -- ---- wrong arrays
 
@@ -125,20 +125,16 @@ place-past-count p =
 pub written-on-refusal : (r : Planned) → Plans 0 (1 ∷ []) (7 ∷ []) (7 ∷ []) (0 ∷ []) (7 ∷ []) r → ⊥
 written-on-refusal r p = let z : _≡_ {A = ℕ} 0 7 = ap (λ (l : List ℕ). getD l 0 0) (p .values-are) in omega arith
 
--- 4 for 63 places at width 6, though a cell is 3
-pub four-before-three : (values cares values′ cares′ : List ℕ) → length values ≡ 63 → length cares ≡ 63
-    → Plans 6 (run 64 0 (λ c. 3)) values cares values′ cares′ (Refused 4) → ⊥
-unfolding run some badCell
-four-before-three values cares values′ cares′ v w p =
-    let three : planRefuses 6 (run 64 0 (λ c. 3)) 63 63 ≡ 3 = refl in
-    let z : _≡_ {A = ℕ} 3 4 = sym three ∙ sym (ap₂ (λ (i j : ℕ). planRefuses 6 (run 64 0 (λ c. 3)) i j) v w) ∙ refused-by 6 (run 64 0 (λ c. 3)) values cares values′ cares′ 4 p in
-    omega arith
+-- 4 for arrays of any length, so of 63 places too, where every cell is 3
+pub four-before-three : (values cares values′ cares′ : List ℕ) → Plans 6 (replicate 64 3) values cares values′ cares′ (Refused 4) → ⊥
+unfolding some badCell
+four-before-three values cares values′ cares′ p =
+    let z : _≡_ {A = ℕ} 3 4 = refused-by 6 (replicate 64 3) values cares values′ cares′ 4 p in omega arith
 
 -- 3 for a cell of a table that has 63 cells at width 6
-pub three-before-two : (values cares values′ cares′ : List ℕ) → Plans 6 (run 63 0 (λ c. 3)) values cares values′ cares′ (Refused 3) → ⊥
-unfolding run
+pub three-before-two : (values cares values′ cares′ : List ℕ) → Plans 6 (replicate 63 3) values cares values′ cares′ (Refused 3) → ⊥
 three-before-two values cares values′ cares′ p =
-    let z : _≡_ {A = ℕ} 2 3 = refused-by 6 (run 63 0 (λ c. 3)) values cares values′ cares′ 3 p in omega arith
+    let z : _≡_ {A = ℕ} 2 3 = refused-by 6 (replicate 63 3) values cares values′ cares′ 3 p in omega arith
 
 -- 2 for a table of one cell at width 7
 pub two-before-one : (values cares values′ cares′ : List ℕ) → Plans 7 (1 ∷ []) values cares values′ cares′ (Refused 2) → ⊥

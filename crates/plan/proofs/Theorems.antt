@@ -42,35 +42,37 @@ module _ (list : Cover) (f : Row → ℕ) (count : ℕ) (count-is : count ≡ le
       ap₂ drop front-is new-is ∙ drop-front (map f list) (drop (length (map f list)) old) ∙ ap (λ (k : ℕ). drop k old) (sym front-is)
 
 module _ (n : ℕ) (t values cares values′ cares′ : List ℕ) where
-  held : (rows bits : ℕ) → Plans n t values cares values′ cares′ (Rows rows bits) → Held n t values cares values′ cares′ rows bits
-  held rows bits p = record {
-    enough-values = array-long (p .list) (λ r. r .value) rows rows-are values values′ values-are;
-    enough-cares = array-long (p .list) (λ r. r .care) rows rows-are cares cares′ cares-are;
-    minimum = subst⁻¹ (Minimum n t) list-is (p .minimum accepts);
-    is-ascending = subst⁻¹ (λ (l : Cover). T (ascending (map (numberOf n) l))) list-is (p .is-ascending accepts);
-    row-count = ap length list-is ∙ sym rows-are;
-    bit-count = ap (coverLiterals n) list-is ∙ sym (bits-is n t values cares values′ cares′ rows bits p);
-    values-behind = array-behind (p .list) (λ r. r .value) rows rows-are values values′ values-are;
-    cares-behind = array-behind (p .list) (λ r. r .care) rows rows-are cares cares′ cares-are;
-  }
-    where
-      accepts : planRefuses n t (length values) (length cares) ≡ 0
-      accepts = not-refused n t values cares values′ cares′ rows bits p
+  module _ (rows bits : ℕ) (p : Plans n t values cares values′ cares′ (Rows rows bits)) where
+    accepts : planRefuses n t (length values) (length cares) ≡ 0
+    accepts = not-refused n t values cares values′ cares′ rows bits p
 
-      rows-are : rows ≡ length (p .list)
-      rows-are = rows-is n t values cares values′ cares′ rows bits p
+    rows-are : rows ≡ length (p .list)
+    rows-are = rows-is n t values cares values′ cares′ rows bits p
 
-      values-are : values′ ≡ valuesOf (p .list) ++ drop (length (valuesOf (p .list))) values
-      values-are = p .values-are ∙ ap (λ (k : ℕ). written k (valuesOf (p .list)) values) accepts
+    values-are : values′ ≡ valuesOf (p .list) ++ drop (length (valuesOf (p .list))) values
+    values-are = p .values-are ∙ ap (λ (k : ℕ). written k (valuesOf (p .list)) values) accepts
 
-      cares-are : cares′ ≡ caresOf (p .list) ++ drop (length (caresOf (p .list))) cares
-      cares-are = p .cares-are ∙ ap (λ (k : ℕ). written k (caresOf (p .list)) cares) accepts
+    cares-are : cares′ ≡ caresOf (p .list) ++ drop (length (caresOf (p .list))) cares
+    cares-are = p .cares-are ∙ ap (λ (k : ℕ). written k (caresOf (p .list)) cares) accepts
 
-      list-is : firstPlaces rows values′ cares′ ≡ p .list
-      list-is =
-          ap₂ rowsOf (array-front (p .list) (λ r. r .value) rows rows-are values values′ values-are)
-          (array-front (p .list) (λ r. r .care) rows rows-are cares cares′ cares-are)
-          ∙ rows-back (p .list)
+    -- the first places hold the list that the promise names
+    pub list-is : firstPlaces rows values′ cares′ ≡ p .list
+    list-is =
+        ap₂ rowsOf (array-front (p .list) (λ r. r .value) rows rows-are values values′ values-are)
+        (array-front (p .list) (λ r. r .care) rows rows-are cares cares′ cares-are)
+        ∙ rows-back (p .list)
+
+    held : Held n t values cares values′ cares′ rows bits
+    held = record {
+      enough-values = array-long (p .list) (λ r. r .value) rows rows-are values values′ values-are;
+      enough-cares = array-long (p .list) (λ r. r .care) rows rows-are cares cares′ cares-are;
+      minimum = subst⁻¹ (Minimum n t) list-is (p .minimum accepts);
+      is-ascending = subst⁻¹ (λ (l : Cover). T (ascending (map (numberOf n) l))) list-is (p .is-ascending accepts);
+      row-count = ap length list-is ∙ sym rows-are;
+      bit-count = ap (coverLiterals n) list-is ∙ sym (bits-is n t values cares values′ cares′ rows bits p);
+      values-behind = array-behind (p .list) (λ r. r .value) rows rows-are values values′ values-are;
+      cares-behind = array-behind (p .list) (λ r. r .care) rows rows-are cares cares′ cares-are;
+    }
 
   pub arrays-hold : ArraysHold n t values cares values′ cares′
   arrays-hold = record { counted = held; accepted = delivered }

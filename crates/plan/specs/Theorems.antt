@@ -38,6 +38,7 @@ pub record Delivered (n : ℕ) (t values cares values′ cares′ : List ℕ) (r
   pub answer : r ≡ Rows rows bits
   pub held : Held n t values cares values′ cares′ rows bits
 
+-- what follows for a call, whatever the table and the arrays
 pub record ArraysHold (n : ℕ) (t values cares values′ cares′ : List ℕ) : Type 0 where
   -- where counts are returned, they are those of the list that the arrays hold
   pub counted : (rows bits : ℕ) → Plans n t values cares values′ cares′ (Rows rows bits) → Held n t values cares values′ cares′ rows bits
