@@ -8,7 +8,9 @@
  *
  * The caller owns all memory. Each array is lent for the call only, with the length that is stated;
  * no two of them may overlap, and none may be NULL (for a length of 0, any other address will do).
- * Nothing is kept, nothing is allocated, and no call fails in another way than by its answer.
+ * Nothing is kept and nothing is allocated. A call needs stack: rows_plan took about 120 KB at most
+ * on the tables of tests/tables, measured on x86-64, which is no proved bound. Apart from that, no
+ * call fails in another way than by its answer.
  *
  * A refusal is minus one of these numbers, and then no lent byte is changed:
  *   1  n is not 1 to 6
@@ -34,6 +36,7 @@ extern "C" {
  * number, and leaves the places behind it unchanged.
  *
  * Answers 10000 * rows + tested bits of that list, or a refusal: -1, -2, -3, -4.
+ * For an answer of 0 or more, rows = answer / 10000 and tested bits = answer % 10000.
  * No list that is right for the table has fewer rows, and none with as many rows tests fewer bits.
  */
 int32_t rows_plan(size_t n, const uint8_t *table, size_t table_len, uint8_t *values, size_t values_len,

@@ -1,1 +1,2 @@
+-- What Cells refuses and writes, and what its steps leave.
 pub mod Cells

@@ -7,8 +7,7 @@ ghost use mathlib.Core.Path.{_≡_};
 ghost use Prim.Native.Nat.{_+_, _<_, _≤_, _^_};
 ghost use lib.ListN.{length};
 ghost use lib.Seq.{sets};
-ghost use Rattle.cube.specs.Words.{codesOf};
-ghost use Rattle.cube.specs.Words.{digit as digitAt};
+ghost use Rattle.cube.specs.Words.{digit as digitAt, codesOf};
 ghost use Rattle.cube.specs.Calls.{widest, Listed};
 ghost use Rattle.cells.specs.Cells.{cellsRefuses, FirstUntested, Splits};
 
@@ -41,6 +40,7 @@ pub enum Split {
     Halves(usize, usize),
 }
 
+// The code of a cube, or its two halves at the first untested digit.
 pub fn split_at_first(n: usize, q: usize) -> Split
     requires { ⌜ (n ≤ widest) × (q < 3 ^ n) ⌝ }
     ensures { λ r. ⌜ Splits n q r ⌝ }
@@ -70,6 +70,7 @@ fn write_codes(n: usize, q: usize, out: &mut [u8], at: usize) -> usize
     }
 }
 
+// The codes that a cube matches into the first bytes, ascending: how many there are, or the number of the refusal.
 pub fn cells(n: usize, q: usize, out: &mut [u8]) -> Counted
     ensures { λ r. ⌜ Listed (cellsRefuses n q (length (now (out .entry)))) (codesOf n q) (now (out .entry)) (now (out .exit)) r ⌝ }
 {

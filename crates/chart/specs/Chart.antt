@@ -12,6 +12,7 @@ use Rattle.chart.specs.declared.Arrays.{Arrays}
 abbrev pub primeAt : ℕ → List ℕ → ℕ → ℕ
 primeAt n t i = getD (primesOf n t) i 0
 
+-- the arrays hold the chart of a table: so many rows, and in place i of each what the prime at place i has
 pub record IsChart (n : ℕ) (t : List ℕ) (a : Arrays) : Type 0 where
   pub rows : a .rows ≡ length (primesOf n t)
   pub places : (a .rows ≤ length (a .cubes)) × (a .rows ≤ length (a .words)) × (a .rows ≤ length (a .literals))

@@ -1,4 +1,4 @@
--- The columns of a chart row: "a 64-bit word whose bit c tells that wanted code c is matched. Free and barred codes are never columns."
+-- The columns of a chart row: "a 64-bit word whose bit c tells that wanted code c is matched [..] Free and barred codes are never columns."
 -- Assumes nothing.
 use Prim.Native.Nat.{ℕ, zero, suc, _+_, _*_, _^_}
 use mathlib.Core.Bool.{Bool, _&&_}

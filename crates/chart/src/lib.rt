@@ -107,6 +107,7 @@ pub struct Arrays {
     pub literals: [u8; 729],
 }
 
+// The chart of a table of n variables.
 pub fn build(n: usize, table: &[u8]) -> Arrays
     requires { ⌜ (n ≤ widest) × (length (now table) ≡ 2 ^ n) ⌝ }
     ensures { λ r. ⌜ IsChart n (now (table .entry)) r ⌝ }

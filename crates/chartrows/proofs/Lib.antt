@@ -1,1 +1,2 @@
+-- The rows copied from the chart on parallel arrays.
 pub mod RowLists

@@ -49,6 +49,7 @@ struct Prepared {
     chart: Arrays,
 }
 
+// The refusal for so many lent rows, and the chart to copy.
 fn prepare(n: usize, table: &[u8], places: usize) -> Prepared
     ensures { λ r. ⌜ Prepares n (now (table .entry)) places r ⌝ }
 {
@@ -80,6 +81,7 @@ fn answer(prepared: Prepared) -> Counted
     Counted::Count(prepared.chart.rows)
 }
 
+// The chart of a table into the first of the lent rows, one per prime: how many there are, or the number of the refusal.
 pub fn chart(n: usize, table: &[u8], rows: &mut [ChartRow]) -> Counted
     ensures { λ r. ⌜ Charted n (now (table .entry)) (now (rows .entry)) (now (rows .exit)) r ⌝ }
 {

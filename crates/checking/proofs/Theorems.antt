@@ -10,6 +10,7 @@ use Rattle.cube.specs.Words.{cell, onSet, offSet, Cover, coverMatches, implemen
 use Rattle.cube.specs.Calls.{gives, answered}
 use Rattle.cube.proofs.Bools.{and-l, and-r, and-i, or-e, or-l, or-r, not-e, not-i, is-true, is-false, holds}
 use Rattle.cube.proofs.Below.{Lowest, lowest-or-none}
+use Rattle.cube.proofs.Calls.{same-value}
 use Rattle.cube.proofs.Theorems.{implements-on, implements-off, implements-by}
 use Rattle.checking.specs.Check.{checkRefuses, Verdict, right, missed, stray, isMissed, isStray, isWrong, verdict, checkOf}
 use Rattle.checking.specs.Theorems.{NamedMissed, NamedStray, CheckMeans}
@@ -100,7 +101,7 @@ module _ (n : ℕ) (t vs ws : List ℕ) (e : checkRefuses n t vs ws ≡ 0) where
   answer-is = ap (λ (k : ℕ). answered k (verdict n t (rowsOf vs ws))) e
 
   same-verdict : (v : Verdict) → checkOf n t vs ws ≡ gives v → verdict n t (rowsOf vs ws) ≡ v
-  same-verdict v h = let g : gives (verdict n t (rowsOf vs ws)) ≡ gives v = sym answer-is ∙ h in cc
+  same-verdict v h = same-value (verdict n t (rowsOf vs ws)) v (sym answer-is ∙ h)
 
   when-so : (v : Verdict) → checkOf n t vs ws ≡ gives v ↔ Says n t (rowsOf vs ws) v
   when-so v = (λ h. subst (Says n t (rowsOf vs ws)) (same-verdict v h) (says n t (rowsOf vs ws)), λ h. answer-is ∙ ap gives (is-verdict n t (rowsOf vs ws) v h))

@@ -1,2 +1,3 @@
+-- What Check answers, and what each answer says.
 pub mod Check
 pub mod Theorems

@@ -64,6 +64,7 @@ fn compare(n: usize, table: &[u8], values: &[u8], cares: &[u8]) -> Checked
     }
 }
 
+// Whether a list is right for a table: right, the lowest wrong code, or the number of the refusal.
 pub fn check(n: usize, table: &[u8], values: &[u8], cares: &[u8]) -> Checked
     ensures { λ r. ⌜ checkAnswer r ≡ checkOf n (now (table .entry)) (now (values .entry)) (now (cares .entry)) ⌝ }
 {

@@ -1,5 +1,5 @@
--- The laws of the numbers below a bound: every, some, those, the lowest of those and run, each by induction on the bound; and how many of those that
--- pass pass another test. Assumes nothing.
+-- The laws of the numbers below a bound: every, some, those, the lowest of those and run, each by induction on the bound. Of those that pass: how many
+-- they are and how many pass another test, that their list holds each of them once, and what stands at its places, ascending. Assumes nothing.
 use mathlib.Core.Path.{_≡_, refl, sym, ap, ap₂, _∙_, subst, subst⁻¹}
 use mathlib.Core.Logic.{_⊎_, inl, inr, ⊎-elim}
 use mathlib.Core.Bool.{Bool, true, false, cond, not, _&&_, _||_}
@@ -12,6 +12,7 @@ use lib.ListN.{length, length-append, getD, List·getD-append}
 use lib.Seq.{getD-append-seam}
 use Rattle.cube.specs.Below.{flag, every, some, those, count, Lists, run}
 use Rattle.cube.proofs.Bools.{and-l, and-r, and-i, or-e, or-l, or-r, or-exchange, not-e, not-i, same, is-true, is-false, holds, lt-or-le}
+use Rattle.cube.proofs.Digits.{flag-lt}
 
 -- ---- every and some
 
@@ -26,11 +27,6 @@ pub every-by : (m : ℕ) (f : ℕ → Bool) → ((k : ℕ) → k < m → T (f k)
 unfolding every
 every-by zero f h = tt
 every-by (suc m) f h = and-i (f m) (every m f) (h m (lt-suc-self m)) (every-by m f (λ k l. h k (omega arith)))
-
-pub every-same : (m : ℕ) (f g : ℕ → Bool) → ((k : ℕ) → k < m → f k ≡ g k) → every m f ≡ every m g
-unfolding every
-every-same zero f g e = refl
-every-same (suc m) f g e = ap₂ _&&_ (e m (lt-suc-self m)) (every-same m f g (λ k l. e k (omega arith)))
 
 pub some-at : (m : ℕ) (f : ℕ → Bool) → T (some m f) → (k : ℕ) × (k < m) × T (f k)
 unfolding some
@@ -195,11 +191,7 @@ module _ (f : ℕ → Bool) where
 
   pub those-length : (m : ℕ) → length (those m f) ≤ m
   those-length zero = omega (arith, count-none)
-  those-length (suc m) = omega (arith, count-suc m, those-length m, flag-le (f m))
-    where
-      flag-le : (b : Bool) → flag b ≤ 1
-      flag-le true = omega arith
-      flag-le false = omega arith
+  those-length (suc m) = omega (arith, count-suc m, those-length m, flag-lt (f m))
 
   pub count-more : (a m : ℕ) → a ≤ m → length (those a f) ≤ length (those m f)
   count-more a zero l = let e : a ≡ 0 = omega arith in subst⁻¹ (λ (i : ℕ). length (those i f) ≤ length (those zero f)) e (omega arith)

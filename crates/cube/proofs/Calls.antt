@@ -1,9 +1,9 @@
--- What the calls share: the first condition that holds, and conditions behind others; a width, a table and a list that are not refused; and the
--- two ways in which a call that writes a list ends. Assumes nothing.
-use mathlib.Core.Path.{_≡_, refl, sym, ap, _∙_}
+-- What the calls share: the first condition that holds, and conditions behind others; a width, a table and a list that are not refused; what an answer
+-- tells; and the two ways in which a call that writes a list ends. Assumes nothing.
+use mathlib.Core.Path.{_≡_, refl, sym, ap, _∙_, subst}
 use mathlib.Core.Bool.{Bool, true, false, cond, not, _&&_, _||_, true≢false}
 use mathlib.Core.List.{List, [], _∷_, _++_}
-use Prim.Native.Nat.{ℕ, suc, _^_, _≤_}
+use Prim.Native.Nat.{ℕ, zero, suc, _^_, _≤_}
 use native.Mathlib.Nat.{pow-le-pow-right}
 use native.Mathlib.Omega.{arith}
 use lib.Dec.{T, eqb, ltb, lit<}
@@ -11,10 +11,11 @@ use lib.ListN.{length}
 use lib.Pow.{pow-mono}
 use lib.Seq.{sets}
 use borrow.Author.Tests.{ltb-false, eqb-true, not-false}
-use Rattle.cube.specs.Words.{allFormed, rowsOf}
-use Rattle.cube.specs.Calls.{widest, badWidth, badLength, badCell, unequalLengths, mostRows, tooManyRows, badRow, Condition, when, firstOf, tableConditions, listConditions, answered, written, Listed}
+use Rattle.cube.specs.Words.{rowsOf, prime, essential, primesOf, essentialsOf}
+use Rattle.cube.specs.Calls.{widest, badWidth, badLength, badCell, unequalLengths, mostRows, tooManyRows, badRow, Condition, when, firstOf, tableConditions, listConditions, Answer, refuses, gives, answered, written, Listed}
 use Rattle.cube.specs.declared.Counted.the-variants.{Count, Refused}
 use Rattle.cube.proofs.Bools.{and-l, and-r, not-e, eqb-of}
+use Rattle.cube.proofs.Below.{those-length}
 use Rattle.cube.proofs.Lent.{sets-front}
 
 -- ---- a good width
@@ -22,9 +23,6 @@ use Rattle.cube.proofs.Lent.{sets-front}
 pub neither : (a b : Bool) → (a || b) ≡ false → (a ≡ false) × (b ≡ false)
 neither false b e = (refl, e)
 neither true b e = absurd (true≢false e)
-
-pub width-from : (n : ℕ) → badWidth n ≡ false → 1 ≤ n
-width-from n e = ltb-false n 1 (neither (ltb n 1) (ltb widest n) e .0)
 
 pub width-to : (n : ℕ) → badWidth n ≡ false → n ≤ widest
 width-to n e = ltb-false widest n (neither (ltb n 1) (ltb widest n) e .1)
@@ -34,6 +32,15 @@ codes-most n l = pow-mono l
 
 pub cubes-most : (n : ℕ) → n ≤ widest → 3 ^ n ≤ 3 ^ widest
 cubes-most n l = pow-le-pow-right {n = 3} (lit< tt) l
+
+-- the primes and the essentials are at most all cubes
+pub primes-most : (n : ℕ) (t : List ℕ) → length (primesOf n t) ≤ 3 ^ n
+unfolding primesOf
+primes-most n t = those-length (prime n t) (3 ^ n)
+
+pub essentials-most : (n : ℕ) (t : List ℕ) → length (essentialsOf n t) ≤ 3 ^ n
+unfolding essentialsOf
+essentials-most n t = those-length (essential n t) (3 ^ n)
 
 -- ---- the first condition that holds
 
@@ -76,10 +83,8 @@ conditions-pass (x ∷ xs) ys n e =
 -- ---- a table that is not refused
 
 pub record Accepted (n : ℕ) (t : List ℕ) : Type 0 where
-  pub from : 1 ≤ n
   pub to : n ≤ widest
   pub cells : length t ≡ 2 ^ n
-  pub meant : badCell t ≡ false
 
 module _ (n : ℕ) (t : List ℕ) where
   pub accepted : firstOf (tableConditions n t) ≡ 0 → Accepted n t
@@ -87,10 +92,8 @@ module _ (n : ℕ) (t : List ℕ) where
       let a = none-first (badWidth n) 0 (when (badLength n t) 2 ∷ when (badCell t) 3 ∷ []) e in
       let b = none-first (badLength n t) 1 (when (badCell t) 3 ∷ []) (a .1) in
       record {
-        from = width-from n (a .0);
         to = width-to n (a .0);
         cells = eqb-true (length t) (2 ^ n) (not-false (eqb (length t) (2 ^ n)) (b .0));
-        meant = none-first (badCell t) 2 [] (b .1) .0;
       }
 
   -- the conditions of a call behind those of the table
@@ -100,12 +103,34 @@ module _ (n : ℕ) (t : List ℕ) where
   pub table-refuses : (rest : List Condition) (k : ℕ) → firstOf (tableConditions n t) ≡ suc k → firstOf (tableConditions n t ++ rest) ≡ suc k
   table-refuses rest k e = conditions-refuse (tableConditions n t) rest k e
 
+-- a call on a table that is refused for one condition more, with 4
+module _ (n : ℕ) (t : List ℕ) (b : Bool) where
+  abbrev pub then-four : ℕ
+  then-four = firstOf (tableConditions n t ++ (when b 4 ∷ []))
+
+  pub four-table : (k : ℕ) → k ≡ firstOf (tableConditions n t) → (k ≡ 0 → ⊥) → k ≡ then-four
+  four-table zero e h = absurd (h refl)
+  four-table (suc k) e h = sym (table-refuses n t (when b 4 ∷ []) k (sym e))
+
+  pub four-holds : firstOf (tableConditions n t) ≡ 0 → b ≡ true → 4 ≡ then-four
+  four-holds e h = sym (table-passes n t (when b 4 ∷ []) e ∙ first-holds b 4 [] h)
+
+  pub four-passes : firstOf (tableConditions n t) ≡ 0 → b ≡ false → 0 ≡ then-four
+  four-passes e h = sym (table-passes n t (when b 4 ∷ []) e ∙ first-passes b 4 [] h)
+
+  -- where it is not refused
+  pub four-none : then-four ≡ 0 → Accepted n t × (b ≡ false)
+  four-none e = go (firstOf (tableConditions n t)) refl
+    where
+      go : (k : ℕ) → firstOf (tableConditions n t) ≡ k → Accepted n t × (b ≡ false)
+      go zero a = (accepted n t a, none-first b 3 [] (sym (table-passes n t (when b 4 ∷ []) a) ∙ e) .0)
+      go (suc k) a = absurd (let z : suc k ≡ 0 = four-table (suc k) (sym a) (λ x. omega arith) ∙ e in omega arith)
+
 -- ---- a list that is not refused
 
 pub record AcceptedList (n : ℕ) (vs ws : List ℕ) : Type 0 where
   pub equal : length vs ≡ length ws
   pub few : length (rowsOf vs ws) ≤ mostRows
-  pub formed : allFormed n (rowsOf vs ws) ≡ true
 
 pub accepted-list : (n : ℕ) (vs ws : List ℕ) → firstOf (listConditions n vs ws) ≡ 0 → AcceptedList n vs ws
 accepted-list n vs ws e =
@@ -115,8 +140,31 @@ accepted-list n vs ws e =
     record {
       equal = eqb-true (length vs) (length ws) (not-false (eqb (length vs) (length ws)) (a .0));
       few = ltb-false mostRows (length rs) (b .0);
-      formed = not-false (allFormed n rs) (none-first (badRow n rs) 6 [] (b .1) .0);
     }
+
+-- ---- answers
+
+abbrev Refuses : {A : Type 0} → Answer A → Type 0
+Refuses (refuses k) = Unit
+Refuses (gives a) = ⊥
+
+pub refuses-gives : {A : Type 0} (k : ℕ) (a : A) → refuses k ≡ gives a → ⊥
+refuses-gives k a e = subst Refuses e tt
+
+pub same-number : {A : Type 0} (j k : ℕ) → _≡_ {A = Answer A} (refuses j) (refuses k) → j ≡ k
+same-number j k e = cc
+
+pub same-value : {A : Type 0} (a b : A) → gives a ≡ gives b → a ≡ b
+same-value a b e = cc
+
+-- an answer by the refusal's number: values where it is 0, else that number alone
+pub answered-gives : {A : Type 0} (k : ℕ) (a b : A) → gives a ≡ answered k b → (k ≡ 0) × (a ≡ b)
+answered-gives zero a b e = (refl, same-value a b e)
+answered-gives (suc k) a b e = absurd (refuses-gives (suc k) a (sym e))
+
+pub answered-refuses : {A : Type 0} (j k : ℕ) (b : A) → refuses j ≡ answered k b → (k ≡ j) × (k ≡ 0 → ⊥)
+answered-refuses j zero b e = absurd (refuses-gives j b e)
+answered-refuses j (suc k) b e = (sym (same-number j (suc k) e), λ z. omega arith)
 
 -- ---- a call that writes a list
 

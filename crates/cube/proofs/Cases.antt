@@ -9,10 +9,9 @@ use native.Mathlib.Nat.{eq-or-lt-of-le}
 use native.Mathlib.Omega.{arith}
 use lib.Dec.{T, eqb, eqb→eq}
 use lib.ListN.{length}
-use Rattle.cube.specs.Below.{every, some, those, run}
+use Rattle.cube.specs.Below.{every, some, those, among, run}
 use Rattle.cube.specs.Words.{Row, Cover, rowMatches, formed, ones, eachRow, allFormed, coverMatches, coverLiterals, implements, cubeMatches, cubeLiterals, within, implicant, prime, alone, essential, primesOf, essentialsOf}
-use Rattle.cube.specs.Minimum.{Minimum}
-use Rattle.cube.specs.Cases.{Case, among, tableOf, Holds, AllHold, cases}
+use Rattle.cube.specs.Cases.{Case, tableOf, Holds, AllHold, cases}
 use Rattle.cube.proofs.Bools.{and-l, and-r}
 use Rattle.cube.proofs.Independent.{Mark, apartFrom, independent, total, bounded}
 

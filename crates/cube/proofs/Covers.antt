@@ -1,4 +1,4 @@
--- Lists of rows: what a joined list matches and counts, which row matches, and the list of the wanted codes one by one. Assumes nothing.
+-- Lists of rows: what a joined list matches and counts, and the list of the wanted codes one by one. Assumes nothing.
 use mathlib.Core.Path.{_≡_, refl, sym, ap, ap₂, _∙_, subst, subst⁻¹}
 use mathlib.Core.Logic.{⊎-elim}
 use mathlib.Core.Bool.{Bool, true, false, cond, _&&_, _||_, and-assoc, and-true, and-false, or-assoc, or-false}
@@ -7,12 +7,12 @@ use Prim.Native.Nat.{ℕ, zero, suc, _+_, _-_, _*_, _^_, _/_, _<_, _≤_}
 use native.Mathlib.Nat.{eq-or-lt-of-le, mod-eq-of-lt}
 use native.Mathlib.Omega.{arith}
 use lib.Bits.{bitAnd, and-mask}
-use lib.Dec.{T, eqb, ltb, eqb→eq, ltb→lt, lt→ltb}
+use lib.Dec.{T, eqb, ltb, eqb→eq, lt→ltb}
 use lib.ListN.{length, length-append}
 use lib.Pow.{pow-pos}
 use borrow.Author.Tests.{lt-ltb, le-ltb, eq-eqb, ne-eqb}
 use Rattle.cube.specs.Words.{cell, onSet, Row, Cover, rowMatches, formed, ones, eachRow, allFormed, coverMatches, coverLiterals, implements}
-use Rattle.cube.proofs.Bools.{and-l, and-r, and-i, or-e, eqb-of, lt-or-le}
+use Rattle.cube.proofs.Bools.{and-r, and-i, eqb-of, lt-or-le}
 use Rattle.cube.proofs.Digits.{bit-lt}
 use Rattle.cube.proofs.Theorems.{implements-by}
 
@@ -32,14 +32,6 @@ pub literals-append : (n : ℕ) (a b : Cover) → coverLiterals n (a ++ b) ≡ c
 unfolding coverLiterals
 literals-append n [] b = omega arith
 literals-append n (r ∷ a) b = omega (arith, literals-append n a b)
-
--- a row of the list that matches the code, and that passes what each row passes
-pub matching-row : (f : Row → Bool) (rs : Cover) (c : ℕ) → T (eachRow f rs) → T (coverMatches rs c) → (r : Row) × T (f r) × T (rowMatches r c)
-unfolding eachRow coverMatches
-matching-row f [] c e m = absurd m
-matching-row f (r ∷ rs) c e m =
-    ⊎-elim (λ x. (r, and-l (f r) (eachRow f rs) e, x)) (λ x. matching-row f rs c (and-r (f r) (eachRow f rs) e) x)
-    (or-e (rowMatches r c) (coverMatches rs c) m)
 
 pub ones-le : (n w : ℕ) → ones n w ≤ n
 unfolding ones

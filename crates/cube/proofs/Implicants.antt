@@ -1,17 +1,17 @@
 -- Implicants and primes: an implicant splits at an untested digit; a prime is an implicant of which no single literal can be given up; and every
 -- implicant lies within a prime that tests no more digits. Assumes nothing.
 use mathlib.Core.Path.{_≡_, refl, sym, ap, subst⁻¹}
-use mathlib.Core.Logic.{_⊎_, inl, inr, ⊎-elim}
+use mathlib.Core.Logic.{⊎-elim}
 use mathlib.Core.Bool.{Bool, true, false, not, _&&_, _||_}
 use mathlib.Core.List.{List}
-use Prim.Native.Nat.{ℕ, zero, suc, _+_, _^_, _<_, _≤_}
+use Prim.Native.Nat.{ℕ, zero, suc, _^_, _<_}
 use native.Mathlib.Omega.{arith}
 use lib.Dec.{T, eqb, ltb, eqb→eq, lit<, ltb→lt, lt→ltb}
-use Rattle.cube.specs.Below.{every, some}
+use Rattle.cube.specs.Below.{some}
 use Rattle.cube.specs.Words.{offSet, tested, digit, cubeMatches, cubeLiterals, valueOf, within, implicant, wider, prime}
-use Rattle.cube.proofs.Bools.{and-l, and-r, and-i, or-e, imp-e, imp-i, nand-e, nand-i, not-e, not-i, same, holds, eqb-of}
+use Rattle.cube.proofs.Bools.{and-l, and-r, and-i, imp-e, imp-i, nand-e, nand-i, not-e, not-i, same, holds, eqb-of}
 use Rattle.cube.proofs.Below.{every-at, every-by, some-at, none-at, none-by}
-use Rattle.cube.proofs.Digits.{putDigit, contained, contained-matches, matches-contained, contained-refl, contained-trans, contained-literals, put-wider, put-literals, put-lt, put-narrower, is-tested, matches-halves, value-lt, value-matches, value-alone, spare}
+use Rattle.cube.proofs.Digits.{putDigit, contained, contained-matches, matches-contained, contained-refl, contained-trans, put-wider, put-literals, put-lt, put-narrower, is-tested, matches-halves, value-lt, value-matches, value-alone, spare}
 
 -- ---- implicants
 

@@ -8,12 +8,13 @@ use native.Mathlib.Nat.{zero-add, add-zero, add-suc, suc-add}
 use native.Mathlib.Numerals.{add-one}
 use native.Mathlib.Omega.{arith}
 use lib.ListN.{length, length-append, length-map, set, take, drop, drop-of-length-le, getD, List·getD-append}
-use lib.Seq.{sets, length-sets, sets-eq, take-length, take-suc, getD-set-same, getD-set-other}
+use lib.Seq.{sets, length-sets, sets-eq, take-length, getD-set-same, getD-set-other}
 use borrow.Author.Count.{below-more}
 use borrow.Rule.Slice.PartMut.{midOf, putMid, mid-len, post-is}
 use borrow.Table.Elements.{map-app, length-take-le}
 use Rattle.cube.specs.Below.{those}
 use Rattle.cube.proofs.Below.{those-length}
+use Rattle.cube.proofs.Fronts.{take-more}
 
 -- a run of stores and the run right behind it
 pub sets-append : (l : List ℕ) (i : ℕ) (xs ys : List ℕ) → sets (sets l i xs) (i + length xs) ys ≡ sets l i (xs ++ ys)
@@ -53,7 +54,7 @@ map-more f qs old i x l e v =
     store-more old (map f (take i qs)) x e (sym (length-map (take i qs) f ∙ length-take-le i qs (omega arith)))
     ∙ ap (sets old 0)
     (ap (λ (y : ℕ). map f (take i qs) ++ y ∷ []) v ∙ sym (map-app f (take i qs) (getD qs i 0 ∷ []))
-    ∙ ap (map f) (sym (ap (λ (k : ℕ). take k qs) (add-one i) ∙ take-suc qs i 0 l)))
+    ∙ ap (map f) (sym (take-more qs i l)))
 
 -- ---- a value for each number that passes, stored one by one
 

@@ -1,3 +1,4 @@
+-- The laws of the words, from tests and digits to rows, implicants and lists; then the theorems and the laws that the calls share.
 pub mod Bools
 pub mod Below
 pub mod Digits
@@ -16,3 +17,4 @@ pub mod Lists
 pub mod McCluskey
 pub mod Covers
 pub mod Minimum
+pub mod Basis

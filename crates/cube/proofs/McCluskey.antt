@@ -191,7 +191,7 @@ module _ (n : ℕ) (t : List ℕ) where
             let e = checked-expands q l i c in none-at n (expands n t q) (and-r (implicant n t q) (not (some n (expands n t q))) m) (e .0) (e .1) (e .2);
       }
 
-  prime-from : (q : ℕ) → PrimeImplicant n t q → (q < 3 ^ n) × T (prime n t q)
+  pub prime-from : (q : ℕ) → PrimeImplicant n t q → (q < 3 ^ n) × T (prime n t q)
   unfolding maximal
   prime-from q p =
       let c = character-is (p .character) in (
@@ -215,16 +215,16 @@ module _ (n : ℕ) (t : List ℕ) where
         sole = count-one (prime n t) (cross n (s .0)) (3 ^ n) q l (e .0) (s .3) (s .4);
       }
 
-  essential-from : (q : ℕ) → SingleAsterisk n t q → (q < 3 ^ n) × T (essential n t q)
+  -- of the primes only q matches the column of its sole entry
+  pub sole-row : (q : ℕ) (a : SingleAsterisk n t q) (i : ℕ) → i < 3 ^ n → T (prime n t i) → T (cubeMatches n i (a .column)) → i ≡ q
   unfolding primesOf
-  essential-from q a =
-      (p .0, meanings n t .essential-is q .1 (p .1, (a .column, a .is-column .row, a .is-column .one, a .entry, only)))
-    where
-      p : (q < 3 ^ n) × T (prime n t q)
-      p = prime-from q (a .row)
+  sole-row q a i l x y =
+      let p = prime-from q (a .row) in count-alone (prime n t) (cross n (a .column)) (3 ^ n) i q (a .sole) l (p .0) x y (p .1) (a .entry)
 
-      only : (i : ℕ) → i < 3 ^ n → T (prime n t i) → T (cubeMatches n i (a .column)) → i ≡ q
-      only i l x y = count-alone (prime n t) (cross n (a .column)) (3 ^ n) i q (a .sole) l (p .0) x y (p .1) (a .entry)
+  essential-from : (q : ℕ) → SingleAsterisk n t q → (q < 3 ^ n) × T (essential n t q)
+  essential-from q a =
+      let p = prime-from q (a .row) in
+      (p .0, meanings n t .essential-is q .1 (p .1, (a .column, a .is-column .row, a .is-column .one, a .entry, sole-row q a)))
 
   pub agreement : Agreement n t
   unfolding primesOf essentialsOf

@@ -1,17 +1,17 @@
 -- What follows for every shortest list. Two of them are rivals of each other, so their counts agree; the wanted codes one by one are a rival, so there
 -- are no more rows than codes; and a row that is not prime could be exchanged for a wider implicant with fewer literals. Assumes nothing.
-use mathlib.Core.Path.{_≡_, refl, sym, ap, _∙_, subst, subst⁻¹}
+use mathlib.Core.Path.{_≡_, refl, subst, subst⁻¹}
 use mathlib.Core.Logic.{_⊎_, inl, inr, ⊎-elim}
-use mathlib.Core.Bool.{Bool, true, false, not, _&&_, _||_}
+use mathlib.Core.Bool.{Bool, true, false, not, _&&_}
 use mathlib.Core.List.{List, [], _∷_, _++_, append-assoc}
-use Prim.Native.Nat.{ℕ, _+_, _^_, _<_, _≤_}
+use Prim.Native.Nat.{ℕ, _^_, _<_, _≤_}
 use native.Mathlib.Nat.{eq-or-lt-of-le}
 use native.Mathlib.Omega.{arith}
 use lib.Dec.{T}
 use lib.ListN.{length, length-append}
 use Rattle.cube.specs.Below.{some}
-use Rattle.cube.specs.Words.{onSet, offSet, Row, Cover, rowMatches, formed, rowLiterals, eachRow, allFormed, coverMatches, coverLiterals, implements, cubeMatches, cubeLiterals, rowOf, numberOf, implicant, wider, prime}
-use Rattle.cube.specs.Minimum.{NoBetter, Minimum, EquivalentSum, FewestTerms, MinimumSum, Shortest}
+use Rattle.cube.specs.Words.{onSet, offSet, Row, Cover, rowMatches, formed, eachRow, allFormed, coverMatches, coverLiterals, implements, rowOf, numberOf, implicant, wider, prime}
+use Rattle.cube.specs.Minimum.{NoBetter, Minimum, EquivalentSum, MinimumSum, Shortest}
 use Rattle.cube.proofs.Bools.{and-l, and-r, and-i, or-e, or-l, or-r, holds}
 use Rattle.cube.proofs.Below.{some-at}
 use Rattle.cube.proofs.Digits.{contained-matches}

@@ -2,7 +2,7 @@
 -- and each recursion of the words goes through the places 0 to n - 1. Assumes nothing.
 use mathlib.Core.Path.{_≡_, refl, sym, ap, ap₂, _∙_, subst⁻¹}
 use mathlib.Core.Bool.{Bool}
-use Prim.Native.Nat.{ℕ, zero, suc, _+_, _*_, _-_, _^_, _/_, _%_, _<_, _≤_}
+use Prim.Native.Nat.{ℕ, zero, suc, _+_, _-_, _/_, _%_, _<_}
 use native.Mathlib.Nat.{not-suc-le-zero, le-of-suc-le-suc}
 use native.Mathlib.Omega.{arith}
 use lib.Dec.{T, eqb}
@@ -79,6 +79,7 @@ module _ (n : ℕ) where
 
   pub positions : Positions n
   positions = record {
+    digits = digit-weight;
     matches = λ q c. (
       λ h k v. let e : n - k < n = omega (arith, v .0, v .1) in subst⁻¹ T (sym (ap₂ fits (digit-is k q) (bit-is k c))) (places-of n q c h (n - k) e),
       λ f. of-places n q c (by-variables q c f),

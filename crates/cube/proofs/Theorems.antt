@@ -1,23 +1,21 @@
 -- The theorems of `specs/Theorems.antt`: the tests of the words as sentences, the one-to-one correspondence, and the cube with every digit 2.
 -- The position forms stand in `Positions`. Assumes nothing.
-use mathlib.Core.Path.{_≡_, refl, sym, ap, subst⁻¹}
+use mathlib.Core.Path.{_≡_, subst⁻¹}
 use mathlib.Core.Logic.{⊎-elim}
 use mathlib.Core.Bool.{Bool, not, _&&_, _||_}
 use mathlib.Core.List.{List}
-use Prim.Native.Nat.{ℕ, zero, suc, _+_, _*_, _-_, _^_, _/_, _%_, _<_, _≤_}
-use native.Mathlib.Nat.{pow-suc}
+use Prim.Native.Nat.{ℕ, zero, suc, _+_, _*_, _-_, _^_, _/_, _<_}
+use native.Mathlib.Nat.{pow-suc, one-le-pow}
 use native.Mathlib.Omega.{arith}
 use lib.Dec.{T, eqb, ltb, eqb→eq, lit<, lt→ltb}
-use Rattle.cube.specs.Below.{every, some}
-use Rattle.cube.specs.Words.{onSet, offSet, Cover, coverMatches, asked, implements, cubeMatches, cubeLiterals, rowOf, numberOf, implicant, within, wider, prime, alone, essential}
+use Rattle.cube.specs.Below.{some}
+use Rattle.cube.specs.Words.{onSet, offSet, Cover, coverMatches, asked, implements, cubeMatches, cubeLiterals, implicant, within, wider, prime, alone, essential}
 use Rattle.cube.specs.Theorems.{OneToOne, EveryDigitTwo, Meanings}
 use Rattle.cube.proofs.Bools.{and-l, and-r, and-i, imp-e, imp-i, nand-e, nand-i, not-e, not-i, eqb-of, eq-or-ne}
 use Rattle.cube.proofs.Below.{every-at, every-by, some-at, some-by, none-at, none-by}
-use Rattle.cube.proofs.Digits.{last-digit, rest-digits, matches-at}
-use Rattle.cube.proofs.Implicants.{implicant-at, implicant-by, within-at, within-contained, contained-within, wider-implicant, wider-fewer, wider-contains, prime-implicant}
-use Rattle.cube.proofs.Digits.{matches-contained}
+use Rattle.cube.proofs.Digits.{matches-at, matches-contained}
+use Rattle.cube.proofs.Implicants.{implicant-at, implicant-by, within-at, contained-within, wider-implicant, wider-fewer, wider-contains, prime-implicant}
 use Rattle.cube.proofs.Rows.{cube-lt, row-formed, number-of-row, row-back, row-is-cube, row-literals}
-use Rattle.cube.proofs.Spelling.{care-lt}
 
 pub one-to-one : (n : ℕ) → OneToOne n
 one-to-one n = record {
@@ -34,12 +32,8 @@ pub every-digit-two : (n : ℕ) → EveryDigitTwo n
 unfolding cubeMatches
 every-digit-two zero c = tt
 every-digit-two (suc n) c =
-    let e : 3 ^ suc n - 1 ≡ (3 ^ n - 1) * 3 + 2 = omega (arith, pow-suc 3 n, positive n) in
+    let e : 3 ^ suc n - 1 ≡ (3 ^ n - 1) * 3 + 2 = omega (arith, pow-suc 3 n, one-le-pow n 3 (lit< tt)) in
     subst⁻¹ (λ (q : ℕ). T (cubeMatches (suc n) q c)) e (subst⁻¹ T (matches-at n (3 ^ n - 1) 2 (lit< tt) c) (every-digit-two n (c / 2)))
-  where
-    positive : (n : ℕ) → 0 < 3 ^ n
-    positive zero = lit< tt
-    positive (suc n) = omega (arith, pow-suc 3 n, positive n)
 
 module _ (n : ℕ) (t : List ℕ) where
   module _ (rs : Cover) where
@@ -76,10 +70,6 @@ module _ (n : ℕ) (t : List ℕ) where
     prime-by i f =
         and-i (implicant n t q) (not (some (3 ^ n) (wider n t q))) i
         (none-by (3 ^ n) (wider n t q) (λ p l w. f p l (wider-implicant n t q p w) (wider-fewer n t q p w) (contained-within n q p (wider-contains n t q p w))))
-
-    -- q alone matches c
-    Alone : ℕ → Type 0
-    Alone c = T (cubeMatches n q c) × ((p : ℕ) → p < 3 ^ n → T (prime n t p) → T (cubeMatches n p c) → p ≡ q)
 
     others : ℕ → ℕ → Bool
     others c p = (prime n t p && cubeMatches n p c) && not (eqb p q)

@@ -32,6 +32,11 @@ unfoldable pub count : (ℕ → Bool) → List ℕ → ℕ
 count f [] = 0
 count f (x ∷ xs) = flag (f x) + count f xs
 
+-- the number stands in the list
+unfoldable pub among : ℕ → List ℕ → Bool
+among x [] = false
+among x (y ∷ ys) = eqb x y || among x ys
+
 -- the list holds each number of which P is true, once, and no other number
 pub record Lists (xs : List ℕ) (P : ℕ → Type 0) : Type 0 where
   pub each : (q : ℕ) → P q → count (eqb q) xs ≡ 1

@@ -1,11 +1,10 @@
 -- The cases a to j of document 01, gathered as one list under a common statement. Assumes nothing.
 use mathlib.Core.Path.{_≡_}
 use Prim.Native.Nat.{ℕ, _^_}
-use mathlib.Core.Bool.{Bool, false, cond, _||_}
+use mathlib.Core.Bool.{cond}
 use mathlib.Core.List.{List, [], _∷_}
-use lib.Dec.{eqb}
 use lib.ListN.{length}
-use Rattle.cube.specs.Below.{run}
+use Rattle.cube.specs.Below.{among, run}
 use Rattle.cube.specs.Words.{Cover, coverLiterals, primesOf, essentialsOf}
 use Rattle.cube.specs.Minimum.{Minimum}
 
@@ -18,10 +17,6 @@ pub record Case : Type 0 where
   pub essentials : ℕ
   pub rows : ℕ
   pub bits : ℕ
-
-unfoldable pub among : ℕ → List ℕ → Bool
-among c [] = false
-among c (x ∷ xs) = eqb c x || among c xs
 
 -- one cell per code
 unfoldable pub tableOf : Case → List ℕ
@@ -36,6 +31,7 @@ pub record Holds (k : Case) : Type 0 where
   pub rows : length list ≡ k .rows
   pub bits : coverLiterals (k .width) list ≡ k .bits
 
+-- each case of the list holds
 abbrev pub AllHold : List Case → Type 0
 AllHold [] = Unit
 AllHold (k ∷ ks) = Holds k × AllHold ks

@@ -1,15 +1,18 @@
 -- Document 000 (McCluskey 1956) in its own words: binary characters and how they combine (section 3), the prime implicant table (section 4) and
--- d-terms (section 10). Then the theorems that its prime implicants and single asterisk rows are document 01's primes and essentials.
+-- d-terms (section 10). Then the theorems that its prime implicants and single asterisk rows are document 01's primes and essentials, and that
+-- its basis rows are the rows of the shortest lists.
 -- A binary character of n positions is a cube number, below 3^n, and digit k stands at the position of weight 2^k.
--- `proofs/McCluskey.antt` proves the theorems. Assumes nothing.
+-- `proofs/McCluskey.antt` and `proofs/Basis.antt` prove the theorems. Assumes nothing.
 use mathlib.Core.Path.{_≡_}
 use mathlib.Core.Logic.{_↔_}
 use mathlib.Core.Bool.{Bool, not}
-use mathlib.Core.List.{List}
-use Prim.Native.Nat.{ℕ, _^_, _/_, _%_, _<_}
+use mathlib.Core.List.{List, map}
+use Prim.Native.Nat.{ℕ, _^_, _/_, _%_, _<_, _≤_}
 use lib.Dec.{T}
-use Rattle.cube.specs.Below.{count, Lists}
-use Rattle.cube.specs.Words.{onSet, offSet, digit, cubeMatches, implicant, prime, essential, primesOf, essentialsOf}
+use lib.ListN.{length}
+use Rattle.cube.specs.Below.{count, among, Lists}
+use Rattle.cube.specs.Words.{onSet, offSet, Cover, coverLiterals, digit, cubeMatches, rowOf, numberOf, implicant, prime, essential, primesOf, essentialsOf}
+use Rattle.cube.specs.Minimum.{Minimum, FewestTerms}
 
 -- ---- section 3: prime implicants
 
@@ -92,8 +95,24 @@ pub record SingleAsterisk (n : ℕ) (t : List ℕ) (q : ℕ) : Type 0 where
   pub entry : T (cross n column q)
   pub sole : crosses n t column ≡ 1
 
+-- "selecting [..] rows such that each column has a cross in at least one selected row"
+pub record Selection (n : ℕ) (t selected : List ℕ) : Type 0 where
+  pub rows : (q : ℕ) → T (among q selected) → PrimeImplicant n t q
+  pub columns : (c : ℕ) → Column n t c → (q : ℕ) × T (among q selected) × T (cross n c q)
+
+-- "A minimum sum is determined from the prime implicant table by selecting the fewest rows such that each column has a cross in at least one
+-- selected row. The selected rows are called basis rows"
+pub record BasisRows (n : ℕ) (t selected : List ℕ) : Type 0 where
+  pub selection : Selection n t selected
+  pub fewest : (other : List ℕ) → Selection n t other → length selected ≤ length other
+
+-- the sum of the prime implicants of some rows
+abbrev pub sumOf : ℕ → List ℕ → Cover
+sumOf n selected = map (rowOf n) selected
+
 -- ---- documents 000 and 01 agree, whatever the width and the table
 
+-- on prime implicants and essential ones
 pub record Agreement (n : ℕ) (t : List ℕ) : Type 0 where
   -- it does not matter which of the two characters is named first
   pub either-first : (a b r : ℕ) → Combination n a b r → Combination n b a r
@@ -106,3 +125,15 @@ pub record Agreement (n : ℕ) (t : List ℕ) : Type 0 where
   -- so the primes listed are the rows of his table, and the essentials listed its single asterisk rows
   pub rows : Lists (tableRows n t) (PrimeImplicant n t)
   pub single-asterisks : Lists (essentialsOf n t) (SingleAsterisk n t)
+
+-- on basis rows: they belong to the shortest lists
+pub record Basis (n : ℕ) (t : List ℕ) : Type 0 where
+  -- "If any column has only one entry, the row in which this entry occurs must be a basis row.": each essential prime is among them
+  pub sole-entries : (selected : List ℕ) → BasisRows n t selected → (q : ℕ) → SingleAsterisk n t q → T (among q selected)
+  -- "the prime implicants corresponding to the basis rows are the ms-terms": the rows of every shortest list are basis rows
+  pub ms-terms : (list : Cover) → Minimum n t list → BasisRows n t (map (numberOf n) list)
+  -- all basis rows give a sum with the fewest terms, whether the terms of the others are prime implicants or not
+  pub fewest-terms : (selected : List ℕ) → BasisRows n t selected → FewestTerms n t (sumOf n selected)
+  -- and those with the fewest literals give the shortest lists
+  pub minimum-sums : (selected : List ℕ) → BasisRows n t selected
+      → Minimum n t (sumOf n selected) ↔ ((other : List ℕ) → BasisRows n t other → coverLiterals n (sumOf n selected) ≤ coverLiterals n (sumOf n other))

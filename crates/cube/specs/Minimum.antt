@@ -38,8 +38,9 @@ pub record MinimumSum (n : ℕ) (t : List ℕ) (terms : Cover) : Type 0 where
   pub fewest-terms : FewestTerms n t terms
   pub fewest-literals : (other : Cover) → FewestTerms n t other → coverLiterals n terms ≤ coverLiterals n other
 
--- ---- what follows for every shortest list, whatever the width and the table
+-- ---- what follows
 
+-- of every shortest list of a table, whatever the width and the table
 pub record Shortest (n : ℕ) (t : List ℕ) : Type 0 where
   -- any two have the same counts
   pub counts : (a b : Cover) → Minimum n t a → Minimum n t b → (length a ≡ length b) × (coverLiterals n a ≡ coverLiterals n b)

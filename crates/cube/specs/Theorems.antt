@@ -3,12 +3,11 @@
 use mathlib.Core.Path.{_≡_}
 use mathlib.Core.Logic.{_↔_}
 use mathlib.Core.List.{List}
-use Prim.Native.Nat.{ℕ, _+_, _-_, _^_, _/_, _%_, _<_, _≤_}
-use mathlib.Core.Bool.{Bool}
+use Prim.Native.Nat.{ℕ, _-_, _^_, _/_, _%_, _<_, _≤_}
 use lib.Dec.{T, eqb}
 use lib.ListN.{length}
 use Rattle.cube.specs.Below.{flag, those}
-use Rattle.cube.specs.Words.{onSet, offSet, Row, Cover, rowMatches, formed, ones, rowLiterals, coverMatches, implements, fits, tested, cubeMatches, cubeLiterals, valueOf, careOf, rowOf, numberOf, implicant, prime, essential, within}
+use Rattle.cube.specs.Words.{onSet, offSet, Row, Cover, rowMatches, formed, ones, rowLiterals, coverMatches, implements, fits, tested, digit, cubeMatches, cubeLiterals, valueOf, careOf, rowOf, numberOf, implicant, prime, essential, within}
 
 -- "Variable x1 has the highest weight, 2^(n−1); xn has weight 1 (001).": the bit of variable xk
 abbrev pub bitOfVariable : ℕ → ℕ → ℕ → ℕ
@@ -24,6 +23,8 @@ Variable n k = (1 ≤ k) × (k ≤ n)
 
 -- the words by positions
 pub record Positions (n : ℕ) : Type 0 where
+  -- digit k, counted from the last, has the weight 3^k
+  pub digits : (k q : ℕ) → digit k q ≡ q / 3 ^ k % 3
   -- a cube matches a code exactly when the digit of each variable fits its bit
   pub matches : (q c : ℕ) → T (cubeMatches n q c) ↔ ((k : ℕ) → Variable n k → T (fits (digitOfVariable n k q) (bitOfVariable n k c)))
   -- the value has a one exactly at each digit 1, the care at each tested digit

@@ -7,7 +7,7 @@ use mathlib.Core.Bool.{Bool, true, false, cond, not, _&&_, _||_}
 use mathlib.Core.List.{List, [], _∷_}
 use lib.Dec.{eqb, ltb}
 use lib.Bits.{bitAnd}
-use lib.ListN.{length, getD}
+use lib.ListN.{getD}
 use Rattle.cube.specs.Below.{flag, every, some, those}
 
 -- ---- tables

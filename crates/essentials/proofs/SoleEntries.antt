@@ -3,7 +3,7 @@
 use mathlib.Core.Path.{_≡_, refl, sym, ap, ap₂, _∙_, subst}
 use mathlib.Core.Bool.{Bool, true, false, cond, not, _&&_, _||_, false≢true}
 use mathlib.Core.List.{List}
-use Prim.Native.Nat.{ℕ, zero, suc, _+_, _^_, _<_, _≤_}
+use Prim.Native.Nat.{ℕ, zero, suc, _+_, _^_, _<_}
 use native.Mathlib.Nat.{lt-of-le-of-lt, pos-of-ne-zero}
 use native.Mathlib.Numerals.{add-one}
 use native.Mathlib.Omega.{arith}
@@ -13,7 +13,7 @@ use lib.Pow.{pow-pos}
 use lib.Dec.{T, eqb, leb, ltb, eqb→eq, ltb→lt, lt→ltb}
 use lib.ListN.{length, getD}
 use borrow.Author.Tests.{le-leb, eq-eqb, ne-eqb}
-use Rattle.cube.specs.Below.{flag, those}
+use Rattle.cube.specs.Below.{flag}
 use Rattle.cube.specs.Words.{onSet, cubeMatches, prime, essential, primesOf}
 use Rattle.cube.specs.McCluskey as mccluskey
 use Rattle.cube.proofs.Bools.{and-l, and-r, and-i, not-e, not-i, same, is-true, holds, eqb-of}

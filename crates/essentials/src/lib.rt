@@ -92,6 +92,7 @@ fn list_essentials(n: usize, table: &[u8], out: &mut [u16]) -> usize
     primes::list_marked(n, &marks, out)
 }
 
+// The essential primes of a table into the first places, ascending by cube number: how many there are, or the number of the refusal.
 pub fn essentials(n: usize, table: &[u8], out: &mut [u16]) -> Counted
     ensures { λ r. ⌜ Listed (primesRefuses n (now (table .entry)) (length (now (out .entry)))) (essentialsOf n (now (table .entry)))
         (now (out .entry)) (now (out .exit)) r ⌝ }

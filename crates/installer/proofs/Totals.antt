@@ -1,18 +1,20 @@
--- The totals of a shortest list are small: at most 64 rows, and six tested bits for each. Assumes nothing.
+-- The totals of a shortest list are small: at most 64 rows, and six tested bits for each. So they are read off Plan's number. Assumes nothing.
+use mathlib.Core.Path.{_≡_, refl, ap₂}
 use mathlib.Core.List.{List}
-use Prim.Native.Nat.{ℕ}
+use Prim.Native.Nat.{ℕ, zero, suc, _+_, _*_, _/_, _%_}
 use native.Mathlib.Nat.{mul-le-mul-right}
 use native.Mathlib.Omega.{arith}
 use lib.ListN.{length}
+use Rattle.cube.specs.Calls.{gives}
 use Rattle.cube.proofs.Calls.{codes-most}
 use Rattle.cube.proofs.Covers.{literals-most}
 use Rattle.cube.proofs.Minimum.{minimum-rows}
-use Rattle.plan.specs.Plan.{Plans}
+use Rattle.plan.specs.Plan.{planAnswer, Plans}
 use Rattle.plan.specs.declared.Planned.{Planned}
 use Rattle.plan.specs.declared.Planned.the-variants.{Rows, Refused}
 use Rattle.plan.proofs.Refusals.{plannable}
-use Rattle.plan.proofs.Answers.{not-refused, rows-is, bits-is}
-use Rattle.installer.specs.Numbers.{FewTotals}
+use Rattle.plan.proofs.Answers.{not-refused, rows-is, bits-is, accepted-refused, refused-by}
+use Rattle.installer.specs.Numbers.{planNumber, readPlan, FewTotals}
 
 pub few-totals : (n : ℕ) (t values cares values′ cares′ : List ℕ) (r : Planned) → Plans n t values cares values′ cares′ r → FewTotals r
 few-totals n t values cares values′ cares′ (Refused k) p = tt
@@ -31,3 +33,14 @@ few-totals n t values cares values′ cares′ (Rows rows bits) p =
         mul-le-mul-right (length (p .list)) width,
       ),
     )
+
+-- the answer is read off its number
+pub read-back : (n : ℕ) (t values cares values′ cares′ : List ℕ) (r : Planned) → Plans n t values cares values′ cares′ r → readPlan (planNumber (planAnswer r)) ≡ planAnswer r
+read-back n t values cares values′ cares′ (Rows rows bits) p =
+    let few = few-totals n t values cares values′ cares′ (Rows rows bits) p in
+    let rows-are : (10000 * rows + bits) / 10000 ≡ rows = omega (arith, few .1) in
+    let bits-are : (10000 * rows + bits) % 10000 ≡ bits = omega (arith, few .1) in
+    ap₂ (λ (x y : ℕ). gives (record { rows = x; bits = y })) rows-are bits-are
+read-back n t values cares values′ cares′ (Refused zero) p =
+    absurd (accepted-refused n t values cares values′ cares′ 0 p (refused-by n t values cares values′ cares′ 0 p))
+read-back n t values cares values′ cares′ (Refused (suc k)) p = refl

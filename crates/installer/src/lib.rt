@@ -39,6 +39,7 @@ fn check_number(answer: Checked) -> i32
     }
 }
 
+// Plan for C: 10,000 × rows + tested bits of the list that is written, or minus the number of the refusal.
 #[no_mangle]
 pub extern "C" fn rows_plan(n: usize, table: &[u8], values: &mut [u8], cares: &mut [u8]) -> i32
     ensures { λ r. ⌜ PlansForC n (now (table .entry)) (now (values .entry)) (now (cares .entry)) (now (values .exit)) (now (cares .exit)) r ⌝ }
@@ -46,6 +47,7 @@ pub extern "C" fn rows_plan(n: usize, table: &[u8], values: &mut [u8], cares: &m
     plan_number(plan::plan(n, table, values, cares))
 }
 
+// Check for C: 0 right, 1 + code missed, 257 + code stray, or minus the number of the refusal.
 #[no_mangle]
 pub extern "C" fn rows_check(n: usize, table: &[u8], values: &[u8], cares: &[u8]) -> i32
     ensures { λ r. ⌜ r ≡ checkNumber (checkOf n (now (table .entry)) (now (values .entry)) (now (cares .entry))) ⌝ }

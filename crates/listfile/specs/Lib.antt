@@ -1,2 +1,3 @@
+-- What Write refuses and writes, and the file by positions.
 pub mod Write
 pub mod Theorems

@@ -43,6 +43,7 @@ fn put_file(n: usize, values: &[u8], cares: &[u8], out: &mut [u8])
     bytes::copy(cares, &mut out[behind..end]);
 }
 
+// The list file of a list into the first bytes of a buffer: its length, or the number of the refusal.
 pub fn write(n: usize, values: &[u8], cares: &[u8], out: &mut [u8]) -> Counted
     ensures { λ r. ⌜ Listed (writeRefuses n (now (values .entry)) (now (cares .entry)) (length (now (out .entry))))
         (fileOf n (now (values .entry)) (now (cares .entry))) (now (out .entry)) (now (out .exit)) r ⌝ }

@@ -11,12 +11,12 @@ use lib.ListN.{length, length-map, take, drop, getD}
 use lib.Seq.{sets, length-sets, getD-take, take-append-seam}
 use borrow.Table.Elements.{length-take-le}
 use Rattle.cube.specs.Below.{those}
-use Rattle.cube.specs.Words.{onSet, Cover, rowMatches, coverLiterals, rowOf, prime, primesOf}
+use Rattle.cube.specs.Words.{onSet, Cover, rowMatches, coverLiterals, rowOf, primesOf}
 use Rattle.cube.specs.Calls.{widest}
 use Rattle.cube.specs.Minimum as lists
 use Rattle.cube.proofs.Bools.{and-l, and-r, and-i, is-true, holds}
-use Rattle.cube.proofs.Below.{those-length, those-ascend}
-use Rattle.cube.proofs.Calls.{codes-most, cubes-most}
+use Rattle.cube.proofs.Below.{those-ascend}
+use Rattle.cube.proofs.Calls.{codes-most, cubes-most, primes-most}
 use Rattle.cube.proofs.Lent.{sets-front}
 use Rattle.cube.proofs.Minimum.{minimum-rows}
 use Rattle.covering.specs.Cover.{Within, Minimum, rowsOf}
@@ -80,8 +80,7 @@ those-ascending m p = ascends-by 0 (those m p) (λ i l. omega arith) (those-asce
 
 -- the rows of a chart are at most all cubes
 pub rows-most : (n : ℕ) (t : List ℕ) → n ≤ widest → (a : Arrays) → IsChart n t a → a .rows ≤ 729
-unfolding primesOf
-rows-most n t w a chart = omega (arith, chart .rows, those-length (prime n t) (3 ^ n), cubes-most n w)
+rows-most n t w a chart = omega (arith, chart .rows, primes-most n t, cubes-most n w)
 
 small-lists : (n : ℕ) → n ≤ widest → n * 2 ^ n < rowWeight
 small-lists n w = omega (arith, mul-le-mul-left n (codes-most n w))

@@ -1,31 +1,31 @@
 -- What Plan's promise leaves open of the counts: nothing. On each of the cases a to j the answer is the case's rows and bits, whatever the arrays held,
--- and so wrong answers are shut out, each on a named case. Assumes nothing.
+-- and so wrong answers are shut out, each on a named case. Then wrong arrays and wrong refusals. Assumes nothing.
 use mathlib.Core.Path.{_≡_, refl, sym, ap, ap₂, _∙_}
-use mathlib.Core.List.{List}
-use Prim.Native.Nat.{ℕ}
+use mathlib.Core.List.{List, [], _∷_}
+use Prim.Native.Nat.{ℕ, zero, suc}
 use native.Mathlib.Omega.{arith}
-use lib.ListN.{length}
-use Rattle.cube.specs.Below.{some, run}
-use Rattle.cube.specs.Calls.{badCell, Answer, gives, refuses, answered}
-use Rattle.cube.specs.Cases.{Case, tableOf, Holds, case-a, case-b, case-e, case-f, case-g, case-j, cases}
+use lib.ListN.{length, getD, replicate}
+use Rattle.cube.specs.Below.{every, some, among, run}
+use Rattle.cube.specs.Words.{rowMatches, coverMatches, rowsOf, implements, cubeOf}
+use Rattle.cube.specs.Calls.{badCell, gives, answered}
+use Rattle.cube.specs.Cases.{Case, tableOf, Holds, case-a, case-b, case-e, case-f, case-g, case-h, case-j, cases}
+use Rattle.cube.proofs.Calls.{same-value}
 use Rattle.cube.proofs.Cases.{all-cases}
 use Rattle.cube.proofs.Minimum.{shortest}
-use Rattle.plan.specs.Plan.{planRefuses, Totals, totalsOf, planAnswer, Plans}
+use Rattle.plan.specs.Plan.{planRefuses, Totals, totalsOf, planAnswer, ascendsFrom, Plans}
+use Rattle.plan.specs.Theorems.{Held}
 use Rattle.plan.specs.declared.Planned.{Planned}
 use Rattle.plan.specs.declared.Planned.the-variants.{Rows, Refused}
-use Rattle.plan.proofs.Answers.{accepted-refused}
+use Rattle.plan.proofs.Answers.{accepted-refused, refused-by}
+use Rattle.plan.proofs.Theorems.{arrays-hold}
 
-abbrev rowsIn : Answer Totals → ℕ
-rowsIn (gives a) = a .rows
-rowsIn (refuses k) = 0
-
-abbrev bitsIn : Answer Totals → ℕ
-bitsIn (gives a) = a .bits
-bitsIn (refuses k) = 0
+-- the rows and bits of a case
+abbrev countsOf : Case → Totals
+countsOf k = record { rows = k .rows; bits = k .bits }
 
 -- the answer on a case that is not refused
 pub answer-on : (k : Case) → Holds k → (values cares values′ cares′ : List ℕ) (r : Planned) → planRefuses (k .width) (tableOf k) (length values) (length cares) ≡ 0
-    → Plans (k .width) (tableOf k) values cares values′ cares′ r → planAnswer r ≡ gives (record { rows = k .rows; bits = k .bits })
+    → Plans (k .width) (tableOf k) values cares values′ cares′ r → planAnswer r ≡ gives (countsOf k)
 answer-on k h values cares values′ cares′ r e p =
     let same = shortest (k .width) (tableOf k) .counts (p .list) (h .list) (p .minimum e) (h .minimum) in
     p .answer ∙ ap (λ (i : ℕ). answered i (totalsOf (k .width) (p .list))) e
@@ -34,11 +34,14 @@ answer-on k h values cares values′ cares′ r e p =
 -- ---- wrong answers on named cases, for any arrays with places enough
 
 module _ (k : Case) (h : Holds k) (values cares values′ cares′ : List ℕ) (e : planRefuses (k .width) (tableOf k) (length values) (length cares) ≡ 0) where
+  counts : (rows bits : ℕ) → Plans (k .width) (tableOf k) values cares values′ cares′ (Rows rows bits) → record { rows = rows; bits = bits } ≡ countsOf k
+  counts rows bits p = same-value (record { rows = rows; bits = bits }) (countsOf k) (answer-on k h values cares values′ cares′ (Rows rows bits) e p)
+
   other-rows : (rows bits : ℕ) → (rows ≡ k .rows → ⊥) → Plans (k .width) (tableOf k) values cares values′ cares′ (Rows rows bits) → ⊥
-  other-rows rows bits d p = d (ap rowsIn (answer-on k h values cares values′ cares′ (Rows rows bits) e p))
+  other-rows rows bits d p = d (ap (λ (x : Totals). x .rows) (counts rows bits p))
 
   other-bits : (rows bits : ℕ) → (bits ≡ k .bits → ⊥) → Plans (k .width) (tableOf k) values cares values′ cares′ (Rows rows bits) → ⊥
-  other-bits rows bits d p = d (ap bitsIn (answer-on k h values cares values′ cares′ (Rows rows bits) e p))
+  other-bits rows bits d p = d (ap (λ (x : Totals). x .bits) (counts rows bits p))
 
 module _ (values cares values′ cares′ : List ℕ) where
   -- all eight primes on j
@@ -83,13 +86,56 @@ unfolding cases
 one-fixed-answer values cares values′ cares′ r d e p q =
     let on-a = answer-on case-a (all-cases .0) values cares values′ cares′ r d p in
     let on-b = answer-on case-b (all-cases .1 .0) values cares values′ cares′ r e q in
-    let z : _≡_ {A = ℕ} 0 1 = ap rowsIn (sym on-a ∙ on-b) in
+    let z : _≡_ {A = ℕ} 0 1 = ap (λ (x : Totals). x .rows) (same-value (countsOf case-a) (countsOf case-b) (sym on-a ∙ on-b)) in
     omega arith
 
 -- 4 with 64 places in each array, at width 6 with nothing wanted
 pub four-with-64-places : (values cares values′ cares′ : List ℕ) → length values ≡ 64 → length cares ≡ 64
-    → Plans 6 (run 64 0 (λ c. 0)) values cares values′ cares′ (Refused 4) → ⊥
-unfolding run some badCell
+    → Plans 6 (replicate 64 0) values cares values′ cares′ (Refused 4) → ⊥
+unfolding some badCell
 four-with-64-places values cares values′ cares′ v w p =
-    let enough : planRefuses 6 (run 64 0 (λ c. 0)) 64 64 ≡ 0 = refl in
-    accepted-refused 6 (run 64 0 (λ c. 0)) values cares values′ cares′ 4 p (ap₂ (λ (i j : ℕ). planRefuses 6 (run 64 0 (λ c. 0)) i j) v w ∙ enough)
+    let enough : planRefuses 6 (replicate 64 0) 64 64 ≡ 0 = refl in
+    accepted-refused 6 (replicate 64 0) values cares values′ cares′ 4 p (ap₂ (λ (i j : ℕ). planRefuses 6 (replicate 64 0) i j) v w ∙ enough)
+
+-- ---- wrong arrays
+
+-- the two rows of h, 10-0 and -00-, in descending order, whatever stands behind them
+pub descending : (values cares values′ cares′ : List ℕ) (r : Planned) → planRefuses 4 (tableOf case-h) (length values) (length cares) ≡ 0
+    → Plans 4 (tableOf case-h) values cares (0 ∷ 8 ∷ values′) (6 ∷ 11 ∷ cares′) r → ⊥
+unfolding run among tableOf every rowsOf rowMatches coverMatches implements cubeOf ascendsFrom
+descending values cares values′ cares′ r e p =
+    let d = arrays-hold 4 (tableOf case-h) values cares (0 ∷ 8 ∷ values′) (6 ∷ 11 ∷ cares′) .accepted r e p in
+    go (d .rows) (d .bits) (d .held)
+  where
+    go : (rows bits : ℕ) → Held 4 (tableOf case-h) values cares (0 ∷ 8 ∷ values′) (6 ∷ 11 ∷ cares′) rows bits → ⊥
+    go zero bits h = h .minimum .right
+    go (suc zero) bits h = h .minimum .right
+    go (suc (suc rows)) bits h = h .is-ascending
+
+-- the place past the one row of b changed
+pub place-past-count : Plans 1 (tableOf case-b) (7 ∷ 7 ∷ []) (7 ∷ 7 ∷ []) (0 ∷ 0 ∷ []) (0 ∷ 7 ∷ []) (Rows 1 0) → ⊥
+place-past-count p =
+    let h = arrays-hold 1 (tableOf case-b) (7 ∷ 7 ∷ []) (7 ∷ 7 ∷ []) (0 ∷ 0 ∷ []) (0 ∷ 7 ∷ []) .counted 1 0 p in
+    let z : _≡_ {A = ℕ} 0 7 = ap (λ (l : List ℕ). getD l 0 0) (h .values-behind) in
+    omega arith
+
+-- ---- wrong refusals
+
+-- a place written though the width is refused
+pub written-on-refusal : (r : Planned) → Plans 0 (1 ∷ []) (7 ∷ []) (7 ∷ []) (0 ∷ []) (7 ∷ []) r → ⊥
+written-on-refusal r p = let z : _≡_ {A = ℕ} 0 7 = ap (λ (l : List ℕ). getD l 0 0) (p .values-are) in omega arith
+
+-- 4 for arrays of any length, so of 63 places too, where every cell is 3
+pub four-before-three : (values cares values′ cares′ : List ℕ) → Plans 6 (replicate 64 3) values cares values′ cares′ (Refused 4) → ⊥
+unfolding some badCell
+four-before-three values cares values′ cares′ p =
+    let z : _≡_ {A = ℕ} 3 4 = refused-by 6 (replicate 64 3) values cares values′ cares′ 4 p in omega arith
+
+-- 3 for a cell of a table that has 63 cells at width 6
+pub three-before-two : (values cares values′ cares′ : List ℕ) → Plans 6 (replicate 63 3) values cares values′ cares′ (Refused 3) → ⊥
+three-before-two values cares values′ cares′ p =
+    let z : _≡_ {A = ℕ} 2 3 = refused-by 6 (replicate 63 3) values cares values′ cares′ 3 p in omega arith
+
+-- 2 for a table of one cell at width 7
+pub two-before-one : (values cares values′ cares′ : List ℕ) → Plans 7 (1 ∷ []) values cares values′ cares′ (Refused 2) → ⊥
+two-before-one values cares values′ cares′ p = let z : _≡_ {A = ℕ} 1 2 = refused-by 7 (1 ∷ []) values cares values′ cares′ 2 p in omega arith

@@ -1,7 +1,7 @@
 -- From the minimum cover of the chart to a shortest list. Each row of a rival lies within a prime that tests no more bits, so the rival gives a selection
 -- of chart rows that covers every wanted code and weighs no more; the minimum selection weighs least, and the weight orders lists. Assumes nothing.
 use mathlib.Core.Path.{_≡_, refl, sym, ap, _∙_, subst, subst⁻¹}
-use mathlib.Core.Logic.{_⊎_, inl, inr, ⊎-elim}
+use mathlib.Core.Logic.{inl, inr, ⊎-elim}
 use mathlib.Core.Bool.{_&&_}
 use mathlib.Core.List.{List, [], _∷_, map}
 use Prim.Native.Nat.{ℕ, zero, suc, _+_, _*_, _^_, _<_, _≤_}
@@ -20,6 +20,7 @@ use Rattle.cube.proofs.Theorems.{implements-on, implements-by}
 use Rattle.cube.proofs.Independent.{sound, rows-sound}
 use Rattle.cube.proofs.Covers.{literals-most, code-by-code}
 use Rattle.covering.specs.Cover.{Within, Hits, weight, Minimum}
+use Rattle.covering.proofs.Bounds.{hitter}
 use Rattle.matrix.specs.Sets.{has, In}
 use Rattle.matrix.specs.Matrix.{covers, weightOf}
 use Rattle.chart.specs.Columns.{column, columnsOf}
@@ -134,18 +135,12 @@ module _ (n : ℕ) (t words weights : List ℕ) (chart : ChartOf n t words weigh
         hits = λ c l a m. ⊎-elim (λ x. inl (one .hits c l a x)) (λ x. inr (more .hits c l a x)) (or-e (rowMatches r c) (coverMatches rs c) m);
       }
 
-  -- a selection that covers a column has a row for it
-  hit-row : (L : List ℕ) (c : ℕ) → Within ChartRow L → Hits (covers words) L c → (i : ℕ) × ChartRow i × covers words i c
-  hit-row [] c w h = absurd h
-  hit-row (i ∷ L) c w (inl h) = (i, w .0, h)
-  hit-row (i ∷ L) c w (inr h) = hit-row L c (w .1) h
-
   -- each wanted code has a row
   pub coverable : (c : ℕ) → c < 2 ^ n → T (onSet t c) → (i : ℕ) × ChartRow i × covers words i c
   coverable c l a =
       let each = code-by-code n t in
       let s = selected (each .list) (rows-sound n t (each .list) (each .right) (each .list) (λ d x. x) (each .is-formed)) in
-      hit-row (s .rows) c (s .within) (s .hits c l a (implements-on n t (each .list) (each .right) c l a))
+      hitter (covers words) (s .rows) c (s .within) (s .hits c l a (implements-on n t (each .list) (each .right) c l a))
 
   -- ---- the minimum selection's list is shortest
 

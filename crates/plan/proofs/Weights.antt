@@ -1,6 +1,6 @@
 -- Why the weight 10,000 + literals orders lists by rows and then by literals: a list of at most 2^n rows tests fewer than 10,000 bits, so no number of
--- literals makes up for a row. It holds while n * 2^n is below 10,000, so for widths up to 8 and beyond. Assumes nothing.
-use mathlib.Core.Logic.{_⊎_, inl, inr, ⊎-elim}
+-- literals makes up for a row. It holds while n * 2^n is below 10,000, so for widths up to 9. Assumes nothing.
+use mathlib.Core.Logic.{inl, inr, ⊎-elim}
 use Prim.Native.Nat.{ℕ, _+_, _*_, _^_, _<_, _≤_}
 use native.Mathlib.Nat.{eq-or-lt-of-le, mul-le-mul-left}
 use native.Mathlib.Omega.{arith}

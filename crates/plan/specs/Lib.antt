@@ -1,1 +1,3 @@
+-- What Plan promises, and what follows for the arrays.
 pub mod Plan
+pub mod Theorems

@@ -3,7 +3,7 @@
 //
 //     let mut values = [0u8; 4];
 //     let mut cares = [0u8; 4];
-//     plan::plan(2, &[0, 1, 1, 1], &mut values, &mut cares)   // 2 rows, 2 bits: values 1 2, cares 1 2
+//     plan::plan(2, &[0, 1, 1, 1], &mut values, &mut cares)   // 2 rows, 2 bits: 1- and -1, values 2 1, cares 2 1
 use matrix::rows;
 use search::Answer;
 ghost use mathlib.Core.Path.{_≡_};
@@ -18,6 +18,7 @@ ghost use Rattle.matrix.specs.Sets.{member};
 ghost use Rattle.chart.specs.Chart.{Cubes};
 ghost use Rattle.plan.specs.Plan.{planRefuses, Plans, rowWeight, Lightest, Chosen};
 
+// The number of rows and the sum of their tested bits, or the number of the refusal.
 pub enum Planned {
     Rows(usize, usize),
     Refused(u8),
@@ -122,6 +123,7 @@ fn plan_refusal(n: usize, table: &[u8], values: usize, cares: usize) -> u8
     0
 }
 
+// A shortest list for a table into the first places of both arrays, ascending by cube number: its counts, or the number of the refusal.
 pub fn plan(n: usize, table: &[u8], values: &mut [u8], cares: &mut [u8]) -> Planned
     ensures { λ r. ⌜ Plans n (now (table .entry)) (now (values .entry)) (now (cares .entry)) (now (values .exit)) (now (cares .exit)) r ⌝ }
 {

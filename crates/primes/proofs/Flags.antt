@@ -2,13 +2,12 @@
 use mathlib.Core.Path.{_≡_, refl, sym, ap, ap₂, _∙_, subst⁻¹}
 use mathlib.Core.Bool.{Bool, true, false, not, _&&_}
 use mathlib.Core.List.{List}
-use Prim.Native.Nat.{ℕ, _+_, _*_, _-_, _^_, _<_, _≤_}
+use Prim.Native.Nat.{ℕ, _+_, _*_, _-_, _^_, _<_}
 use native.Mathlib.Nat.{add-mul, sub-add-cancel, le-of-suc-le-suc}
 use native.Mathlib.Omega.{arith}
 use lib.Dec.{eqb, lit<}
-use lib.ListN.{getD}
 use mir.Val.{boolByte}
-use Rattle.cube.specs.Below.{flag, some}
+use Rattle.cube.specs.Below.{flag}
 use Rattle.cube.specs.Words.{tested, digit, implicant, prime}
 use Rattle.cube.proofs.Below.{some-same}
 use Rattle.cube.proofs.Digits.{putDigit, put-lt, put-weight, digit-lt}

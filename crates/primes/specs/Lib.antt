@@ -1,1 +1,2 @@
+-- What Primes refuses, and what its marks hold.
 pub mod Primes

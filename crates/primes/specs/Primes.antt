@@ -25,6 +25,10 @@ pub record Flagged (n : ℕ) (t flags : List ℕ) : Type 0 where
 abbrev pub Marks : (ℕ → Bool) → List ℕ → ℕ → Type 0
 Marks f marks m = (q : ℕ) → q < m → getD marks q 0 ≡ flag (f q)
 
+-- the marks from m on are as they were
+abbrev pub KeptFrom : ℕ → List ℕ → List ℕ → Type 0
+KeptFrom m old new = (q : ℕ) → m ≤ q → getD new q 0 ≡ getD old q 0
+
 -- q is marked
 abbrev pub isMarked : List ℕ → ℕ → Bool
 isMarked marks q = not (eqb (getD marks q 0) 0)

@@ -6,14 +6,13 @@
 use cells::Split;
 use cube::Counted;
 ghost use mathlib.Core.Path.{_≡_};
-ghost use mathlib.Core.Bool.{Bool};
-ghost use Prim.Native.Nat.{ℕ, _<_, _≤_, _^_};
+ghost use Prim.Native.Nat.{_<_, _≤_, _^_};
 ghost use lib.ListN.{length};
 ghost use lib.Seq.{sets};
 ghost use Rattle.cube.specs.Below.{flag, those};
 ghost use Rattle.cube.specs.Words.{implicant, prime, primesOf};
 ghost use Rattle.cube.specs.Calls.{widest, badCell, tableConditions, firstOf, Listed};
-ghost use Rattle.primes.specs.Primes.{primesRefuses, Flagged, Marks, isMarked, expandsBy, primeBy};
+ghost use Rattle.primes.specs.Primes.{primesRefuses, Flagged, Marks, KeptFrom, isMarked, expandsBy, primeBy};
 
 // Whether a cell is above 2.
 fn bad_cell(table: &[u8]) -> bool
@@ -103,7 +102,7 @@ fn is_prime(n: usize, flags: &[u8], q: usize) -> bool
 // Marks the primes by the flags of the implicants.
 fn mark_maximal(n: usize, flags: &[u8], marks: &mut [u8])
     requires { ⌜ (n ≤ widest) × (3 ^ n ≤ length (now flags)) × (3 ^ n ≤ length (now marks)) ⌝ }
-    ensures { λ _. ⌜ Marks (primeBy n (now (flags .entry))) (now (marks .exit)) (3 ^ n) ⌝ }
+    ensures { λ _. ⌜ Marks (primeBy n (now (flags .entry))) (now (marks .exit)) (3 ^ n) × KeptFrom (3 ^ n) (now (marks .entry)) (now (marks .exit)) ⌝ }
 {
     let cubes = spelling::cubes(n);
     let mut q = 0;
@@ -113,10 +112,10 @@ fn mark_maximal(n: usize, flags: &[u8], marks: &mut [u8])
     }
 }
 
-// Marks the primes of a table of n variables: 1 for a prime, 0 for another cube.
+// Marks the primes of a table of n variables: 1 for a prime, 0 for another cube. Marks past those of the cubes are left.
 pub fn mark_primes(n: usize, table: &[u8], marks: &mut [u8])
     requires { ⌜ Flagged n (now table) (now marks) ⌝ }
-    ensures { λ _. ⌜ Marks (prime n (now (table .entry))) (now (marks .exit)) (3 ^ n) ⌝ }
+    ensures { λ _. ⌜ Marks (prime n (now (table .entry))) (now (marks .exit)) (3 ^ n) × KeptFrom (3 ^ n) (now (marks .entry)) (now (marks .exit)) ⌝ }
 {
     let mut flags = [0u8; 729];
     mark_implicants(n, table, &mut flags);
@@ -141,10 +140,11 @@ fn list_below(m: usize, marks: &[u8], out: &mut [u16]) -> usize
     count
 }
 
-// Lists the marked cubes of n digits, ascending, and returns how many there are. Where the marks are those of a test, these are the cubes that pass.
+// Lists the marked cubes of n digits, ascending, and returns how many there are.
 pub fn list_marked(n: usize, marks: &[u8], out: &mut [u16]) -> usize
     requires { ⌜ (n ≤ widest) × (3 ^ n ≤ length (now marks)) × (3 ^ n ≤ length (now out)) ⌝ }
-    ensures { λ r. ⌜ ((f : ℕ → Bool) → Marks f (now (marks .entry)) (3 ^ n) → (r ≡ length (those (3 ^ n) f)) × (now (out .exit) ≡ sets (now (out .entry)) 0 (those (3 ^ n) f))) ⌝ }
+    ensures { λ r. ⌜ (r ≡ length (those (3 ^ n) (isMarked (now (marks .entry)))))
+        × (now (out .exit) ≡ sets (now (out .entry)) 0 (those (3 ^ n) (isMarked (now (marks .entry))))) ⌝ }
 {
     list_below(spelling::cubes(n), marks, out)
 }
@@ -174,6 +174,7 @@ pub fn listing_refusal(n: usize, table: &[u8], places: usize) -> u8
     0
 }
 
+// All primes of a table into the first places, ascending by cube number: how many there are, or the number of the refusal.
 pub fn primes(n: usize, table: &[u8], out: &mut [u16]) -> Counted
     ensures { λ r. ⌜ Listed (primesRefuses n (now (table .entry)) (length (now (out .entry)))) (primesOf n (now (table .entry)))
         (now (out .entry)) (now (out .exit)) r ⌝ }

@@ -1,1 +1,2 @@
+-- What Spell refuses and answers.
 pub mod Spell

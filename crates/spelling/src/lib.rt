@@ -66,6 +66,7 @@ pub enum Spelled {
     Refused(u8),
 }
 
+// The value and the care that spell a cube, or the number of the refusal.
 pub fn spell(n: usize, q: usize) -> Spelled
     ensures { λ r. ⌜ spellAnswer r ≡ answered (spellRefuses n q) (rowOf n q) ⌝ }
 {

@@ -12,7 +12,7 @@ use borrow.Fn.PlainCycle.{Measures, is, falls, and}
 use Rattle.cube.specs.Words.{cubeLiterals, codesOf}
 use Rattle.cube.proofs.Lent.{sets-append}
 use Rattle.cells.specs.Cells.{Splits}
-use Rattle.cells.specs.declared.Split.the-variants.{Code, Halves}
+use Rattle.cells.specs.declared.Split.the-variants.{Halves}
 use Rattle.cells.proofs.write_codes.Reads as reads
 use Rattle.cells.proofs.write_codes.Kinds as kinds
 use Rattle.cells.proofs.+write_codes.Lts-write_codes as lts

@@ -2,12 +2,12 @@
 -- twice and once. Assumes nothing.
 use mathlib.Core.Path.{_≡_, sym, ap, _∙_, subst⁻¹}
 use mathlib.Core.List.{[], _∷_}
-use Prim.Native.Nat.{ℕ, _+_, _*_, _-_, _^_, _<_, _≤_}
+use Prim.Native.Nat.{ℕ, _*_, _-_, _^_, _<_, _≤_}
 use native.Mathlib.Omega.{arith}
 use native.Mathlib.Nat.{pos-of-ne-zero, one-le-pow}
 use lib.Dec.{lit<}
 use borrow.Author.Needs.{needs}
-use Rattle.cube.specs.Words.{digit, codesOf, valueOf}
+use Rattle.cube.specs.Words.{digit, valueOf}
 use Rattle.cube.proofs.Digits.{putDigit, put-lt, put-weight, value-lt}
 use Rattle.cube.proofs.Codes.{codes-split, codes-one, untested-falls, literals-le}
 use Rattle.cells.specs.Cells.{FirstUntested, Half, Splits}

@@ -8,8 +8,8 @@ use lib.Seq.{sets}
 use borrow.Author.Needs.{needs}
 use Rattle.cube.specs.Words.{cubeLiterals, prime, primesOf}
 use Rattle.cube.specs.Calls.{widest}
-use Rattle.cube.proofs.Below.{those-at, those-length}
-use Rattle.cube.proofs.Calls.{cubes-most}
+use Rattle.cube.proofs.Below.{those-at}
+use Rattle.cube.proofs.Calls.{cubes-most, primes-most}
 use Rattle.cube.proofs.Lent.{sets-at}
 use Rattle.chart.specs.Columns.{columnsOf}
 use Rattle.chart.specs.Chart.{Cubes}
@@ -19,8 +19,7 @@ use Rattle.chart.proofs.build.Tie as tie
 -- the listed cubes, in 729 places
 module _ (n : ℕ) (t old cubes : List ℕ) (rows : ℕ) (w : n ≤ widest) (long : length old ≡ 729) (rows-is : rows ≡ length (primesOf n t)) (cubes-is : cubes ≡ sets old 0 (primesOf n t)) where
   few : rows ≤ 729
-  unfolding primesOf
-  few = omega (arith, those-length (prime n t) (3 ^ n), cubes-most n w)
+  few = omega (arith, primes-most n t, cubes-most n w)
 
   at : (i : ℕ) → i < rows → getD cubes i 0 ≡ getD (primesOf n t) i 0
   at i l = ap (λ (c : List ℕ). getD c i 0) cubes-is ∙ sets-at (primesOf n t) old i (omega (arith, few)) (omega arith)

@@ -1,13 +1,10 @@
 -- `chartrows::prepare` meets its contract: where nothing is refused, the chart has a row for each prime, of which there are at most 3^n. Assumes nothing.
 use mathlib.Core.Path.{_≡_, refl, sym, _∙_}
-use Prim.Native.Nat.{ℕ, zero, suc, _^_, _≤_}
+use Prim.Native.Nat.{ℕ, zero, suc}
 use mathlib.Core.List.{List, []}
 use native.Mathlib.Omega.{arith}
-use lib.ListN.{length}
 use borrow.Author.Needs.{needs}
-use Rattle.cube.specs.Words.{prime, primesOf}
-use Rattle.cube.proofs.Below.{those-length}
-use Rattle.cube.proofs.Calls.{cubes-most}
+use Rattle.cube.proofs.Calls.{cubes-most, primes-most}
 use Rattle.primes.specs.Primes.{primesRefuses}
 use Rattle.primes.proofs.Listing.{Listable, listable}
 use Rattle.chartrows.specs.declared.ChartRow.{ChartRow}
@@ -19,10 +16,6 @@ use Rattle.chartrows.proofs.prepare.Tie as tie
 nothing : (k : ℕ) (list : List ChartRow) → (k ≡ 0 → ⊥) → [] ≡ toWrite k list
 nothing zero list h = absurd (h refl)
 nothing (suc k) list h = refl
-
-few : (n : ℕ) (t : List ℕ) → length (primesOf n t) ≤ 3 ^ n
-unfolding primesOf
-few n t = those-length (prime n t) (3 ^ n)
 
 none : (c : tie.Else1) → primesRefuses (c .before .before .before .args .n) (c .before .before .before .args .table .now) (c .before .before .before .args .places) ≡ 0
 none c = sym (c .before .listing-refusal .ensures) ∙ c .if1 .left
@@ -45,8 +38,8 @@ returns-2 c =
     record {
       refusal = sym (none (c .before));
       fits = (
-        omega (arith, b .rows, few (a .n) (a .table .now), l .enough),
-        omega (arith, b .rows, few (a .n) (a .table .now), cubes-most (a .n) (l .table .to)),
+        omega (arith, b .rows, primes-most (a .n) (a .table .now), l .enough),
+        omega (arith, b .rows, primes-most (a .n) (a .table .now), cubes-most (a .n) (l .table .to)),
       );
       rows = chart-rows (a .n) (a .table .now) _ b;
     }

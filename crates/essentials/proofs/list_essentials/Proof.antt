@@ -4,6 +4,7 @@ use Prim.Native.Nat.{ℕ, _^_, _≤_}
 use borrow.Author.Needs.{needs}
 use Rattle.cube.specs.Words.{essential, essentialsOf}
 use Rattle.cube.proofs.Calls.{cubes-most}
+use Rattle.primes.proofs.Listing.{marked-listed}
 use Rattle.essentials.proofs.list_essentials.Statement.{statement}
 use Rattle.essentials.proofs.list_essentials.Tie as tie
 
@@ -26,7 +27,10 @@ same-length c = search needs
 
 returns : tie.Need-returns
 unfolding essentialsOf
-returns c = let s = c .before .before .before .before .before .before .before .before .before .before .args in c .before .before .list-marked .ensures (essential (s .n) (s .table .now)) (c .before .before .before .before .before .before .mark-essentials .ensures)
+returns c =
+    let s = c .before .before .before .before .before .before .before .before .before .before .args in
+    let marked = c .before .before .before .before .before .before .mark-essentials in
+    marked-listed (s .n) (essential (s .n) (s .table .now)) (marked .last .1 .1 .0) (s .out .now) (marked .ensures) (c .before .before .list-marked .ensures)
 
 pub list-essentials-spec : {M : Type 1} → statement M
 list-essentials-spec =

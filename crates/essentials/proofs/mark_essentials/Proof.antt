@@ -1,5 +1,5 @@
 -- `essentials::mark_essentials` meets its contract: a prime that holds a sole entry is essential, and no other cube is. Assumes nothing.
-use mathlib.Core.Path.{_≡_, sym, ap, _∙_, subst, subst⁻¹}
+use mathlib.Core.Path.{ap, _∙_, subst, subst⁻¹}
 use Prim.Native.Nat.{ℕ, _^_, _<_, _≤_}
 use native.Mathlib.Omega.{arith}
 use lib.ListN.{length}
@@ -25,7 +25,7 @@ prime-words-requires c κs =
         cells = s .pre .cells;
         enough = subst⁻¹ (λ (i : ℕ). 3 ^ s .args .n ≤ i) (c .before .before .before .before .mark-primes .kept .1 .1 .0) (s .pre .enough);
       },
-      c .before .before .before .before .mark-primes .ensures,
+      c .before .before .before .before .mark-primes .ensures .0,
       cubes-most _ (s .pre .width),
     )
 

@@ -5,7 +5,6 @@ use mathlib.Core.List.{List}
 use Prim.Native.Nat.{ℕ}
 use native.Mathlib.Nat.{lt-of-lt-of-le}
 use lib.ListN.{getD}
-use borrow.Author.Needs.{needs}
 use borrow.Author.Tests.{eq-eqb, ne-eqb}
 use Rattle.primes.specs.Primes.{isMarked}
 use Rattle.essentials.proofs.prime_word.Statement.{statement}

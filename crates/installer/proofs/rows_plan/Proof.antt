@@ -1,8 +1,9 @@
 -- `installer::rows_plan` meets its contract: Plan's promise, and the number of its answer. Assumes nothing.
-use mathlib.Core.Path.{_∙_}
+use mathlib.Core.Path.{ap, _∙_}
 use borrow.Author.Needs.{needs}
+use Rattle.installer.specs.Numbers.{readPlan}
 use Rattle.installer.proofs.Signed.{returned}
-use Rattle.installer.proofs.Totals.{few-totals}
+use Rattle.installer.proofs.Totals.{few-totals, read-back}
 use Rattle.installer.proofs.rows_plan.Statement.{statement}
 use Rattle.installer.proofs.rows_plan.Tie as tie
 
@@ -22,11 +23,16 @@ same-length-2 : tie.Need-same-length-2
 same-length-2 c = search needs
 
 returns : tie.Need-returns
-returns c = record {
-  planned = c .before .before .before .before .before .plan .result;
-  plans = c .before .before .before .before .before .plan .ensures;
-  number = returned (c .plan-number .result) (c .plan-number .ok) ∙ c .plan-number .ensures;
-}
+returns c =
+    let s = c .before .before .before .before .before .before .before .before .before .before .before .args in
+    let p = c .before .before .before .before .before .plan in
+    let number = returned (c .plan-number .result) (c .plan-number .ok) ∙ c .plan-number .ensures in
+    record {
+      planned = p .result;
+      plans = p .ensures;
+      number = number;
+      read = ap readPlan number ∙ read-back (s .n) (s .table .now) (s .values .now) (s .cares .now) _ _ (p .result) (p .ensures);
+    }
 
 pub rows-plan-spec : {M : Type 1} → statement M
 rows-plan-spec = tie.close (tie.spec plan-requires plan-number-requires same-length same-length-2 returns)

@@ -1,17 +1,17 @@
 -- `primes::implicant_flag` meets its contract: an implicant splits as its codes do. Assumes nothing.
-use mathlib.Core.Path.{_≡_, refl, sym, ap, ap₂, _∙_, subst, subst⁻¹}
+use mathlib.Core.Path.{_≡_, refl, sym, ap, _∙_, subst, subst⁻¹}
 use mathlib.Core.Bool.{Bool, true, false, not, _&&_}
-use mathlib.Core.List.{List, [], _∷_, _++_}
-use Prim.Native.Nat.{ℕ, _^_, _<_, _≤_}
+use mathlib.Core.List.{List, [], _∷_}
+use Prim.Native.Nat.{ℕ, _<_}
 use native.Mathlib.Nat.{lt-of-lt-of-le}
 use native.Mathlib.Omega.{arith}
-use lib.ListN.{length, getD}
+use lib.ListN.{getD}
 use borrow.Author.Needs.{needs}
 use borrow.Author.Tests.{eq-eqb, ne-eqb}
 use Rattle.cube.specs.Below.{flag}
-use Rattle.cube.specs.Words.{offSet, implicant, codesOf}
+use Rattle.cube.specs.Words.{implicant, codesOf}
 use Rattle.cube.proofs.Codes.{implicant-one, implicant-two}
-use Rattle.cells.specs.Cells.{Half, Splits}
+use Rattle.cells.specs.Cells.{Splits}
 use Rattle.cells.specs.declared.Split.the-variants.{Code, Halves}
 use Rattle.primes.specs.Primes.{Marks}
 use Rattle.primes.proofs.implicant_flag.Statement.{statement}

@@ -1,16 +1,12 @@
 -- `primes::list_below` meets its contract: the marked numbers before q are listed. Assumes nothing.
-use mathlib.Core.Path.{_≡_, ap, _∙_, subst}
+use mathlib.Core.Path.{_≡_, ap}
 use mathlib.Core.Logic.{⊎-elim}
-use mathlib.Core.Bool.{Bool, true, false, not}
-use mathlib.Core.List.{List}
-use Prim.Native.Nat.{ℕ, _-_, _^_, _<_, _≤_}
+use mathlib.Core.Bool.{not}
+use Prim.Native.Nat.{_-_, _^_, _≤_}
 use native.Mathlib.Omega.{arith}
-use lib.Dec.{eqb}
-use lib.ListN.{length, getD}
-use lib.Seq.{sets}
+use lib.ListN.{length}
 use borrow.Author.Needs.{needs}
 use borrow.Author.Tests.{eq-eqb, ne-eqb}
-use Rattle.cube.specs.Below.{those}
 use Rattle.cube.specs.Calls.{widest}
 use Rattle.cube.proofs.Lent.{Collected, collect-none, collect-yes, collect-no, collect-le, collect-long, collected-numbers}
 use Rattle.primes.specs.Primes.{isMarked}

@@ -1,11 +1,13 @@
--- `primes::list_marked` meets its contract: a mark tells its test. Assumes nothing.
-use mathlib.Core.Path.{_≡_, ap, _∙_}
+-- `primes::list_marked` meets its contract: there are 3^n cubes. Assumes nothing.
+use mathlib.Core.Path.{ap, _∙_}
+use Prim.Native.Nat.{ℕ}
 use native.Mathlib.Omega.{arith}
 use lib.ListN.{length}
 use lib.Seq.{sets}
 use borrow.Author.Needs.{needs}
+use Rattle.cube.specs.Below.{those}
 use Rattle.cube.proofs.Calls.{cubes-most}
-use Rattle.primes.proofs.Listing.{marked-list}
+use Rattle.primes.specs.Primes.{isMarked}
 use Rattle.primes.proofs.list_marked.Statement.{statement}
 use Rattle.primes.proofs.list_marked.Tie as tie
 
@@ -19,9 +21,9 @@ same-length : tie.Need-same-length
 same-length c = search needs
 
 returns : tie.Need-returns
-returns c f h =
+returns c =
     let s = c .before .before .before .before .before .before .before .args in
-    let same = marked-list f (s .marks .now) _ (s .n) (c .before .before .before .before .cubes .ensures) h in
+    let same = ap (λ (m : ℕ). those m (isMarked (s .marks .now))) (c .before .before .before .before .cubes .ensures) in
     (c .before .before .list-below .ensures .0 ∙ ap length same, c .before .before .list-below .ensures .1 ∙ ap (sets (s .out .now) 0) same)
 
 pub list-marked-spec : {M : Type 1} → statement M

@@ -4,6 +4,7 @@ use Prim.Native.Nat.{ℕ, _^_, _≤_}
 use borrow.Author.Needs.{needs}
 use Rattle.cube.specs.Words.{prime, primesOf}
 use Rattle.cube.proofs.Calls.{cubes-most}
+use Rattle.primes.proofs.Listing.{marked-listed}
 use Rattle.primes.proofs.list_primes.Statement.{statement}
 use Rattle.primes.proofs.list_primes.Tie as tie
 
@@ -26,7 +27,10 @@ same-length c = search needs
 
 returns : tie.Need-returns
 unfolding primesOf
-returns c = let s = c .before .before .before .before .before .before .before .before .before .before .args in c .before .before .list-marked .ensures (prime (s .n) (s .table .now)) (c .before .before .before .before .before .before .mark-primes .ensures)
+returns c =
+    let s = c .before .before .before .before .before .before .before .before .before .before .args in
+    let marked = c .before .before .before .before .before .before .mark-primes in
+    marked-listed (s .n) (prime (s .n) (s .table .now)) (marked .last .1 .1 .0) (s .out .now) (marked .ensures .0) (c .before .before .list-marked .ensures)
 
 pub list-primes-spec : {M : Type 1} → statement M
 list-primes-spec =

@@ -6,7 +6,6 @@ use lib.ListN.{length, length-set}
 use borrow.Author.Needs.{needs}
 use Rattle.cube.specs.Below.{flag}
 use Rattle.cube.specs.Words.{implicant}
-use Rattle.cube.specs.Calls.{widest}
 use Rattle.cube.proofs.Lent.{fill-more}
 use Rattle.primes.specs.Primes.{Flagged, Marks}
 use Rattle.primes.proofs.mark_implicants.Statement.{statement}

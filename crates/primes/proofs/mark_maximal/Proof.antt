@@ -1,13 +1,14 @@
--- `primes::mark_maximal` meets its contract: the marks before q are right. Assumes nothing.
-use mathlib.Core.Path.{_≡_, refl}
-use Prim.Native.Nat.{ℕ, _-_, _^_, _<_, _≤_}
+-- `primes::mark_maximal` meets its contract: the marks before q are right, and those from q on are as they were. Assumes nothing.
+use mathlib.Core.Path.{_≡_, refl, _∙_}
+use Prim.Native.Nat.{_-_, _^_, _≤_}
 use native.Mathlib.Omega.{arith}
 use lib.ListN.{length, length-set}
+use lib.Seq.{getD-set-other}
 use borrow.Author.Needs.{needs}
 use Rattle.cube.specs.Below.{flag}
 use Rattle.cube.specs.Calls.{widest}
 use Rattle.cube.proofs.Lent.{fill-more}
-use Rattle.primes.specs.Primes.{Marks, primeBy}
+use Rattle.primes.specs.Primes.{Marks, KeptFrom, primeBy}
 use Rattle.primes.proofs.Flags.{byte-is}
 use Rattle.primes.proofs.mark_maximal.Statement.{statement}
 use Rattle.primes.proofs.mark_maximal.Tie as tie
@@ -15,7 +16,7 @@ use Rattle.primes.proofs.mark_maximal.Tie as tie
 abbrev Inv-loop : tie.InvT-loop
 Inv-loop n flags marks₀ cubes q₀ marks q =
     (n ≤ widest) × (3 ^ n ≤ length flags) × (3 ^ n ≤ length marks) × (length marks ≡ length marks₀) × (cubes ≡ 3 ^ n) × (q ≤ cubes)
-    × Marks (primeBy n flags) marks q
+    × Marks (primeBy n flags) marks q × KeptFrom q marks₀ marks
 
 abbrev μ-loop : tie.MeasureT-loop
 μ-loop n flags marks₀ cubes q₀ marks q = cubes - q
@@ -24,7 +25,7 @@ cubes-requires : tie.Need-cubes-requires Inv-loop μ-loop
 cubes-requires c κs = search needs
 
 loop-holds : tie.Need-loop-holds Inv-loop μ-loop
-loop-holds c = (search needs, search needs, search needs, refl, search needs, search needs, λ k l. absurd (omega arith))
+loop-holds c = (search needs, search needs, search needs, refl, search needs, search needs, λ k l. absurd (omega arith), λ k l. refl)
 
 is-prime-requires : tie.Need-is-prime-requires Inv-loop μ-loop
 is-prime-requires c κs = omega arith
@@ -52,13 +53,14 @@ loop-again c =
       i .4,
       omega arith,
       fill-more (λ q. flag (primeBy (s .args .n) (s .args .flags .now) q)) (c .before .before .loop .marks) _ _ (slice-write-marks c) (i .6) (byte-is _ _ (c .is-prime .ensures)),
+      λ k l. getD-set-other (c .before .before .loop .marks) _ k _ 0 (λ d. omega arith) ∙ i .7 k (omega arith),
     )
 
 same-length : tie.Need-same-length Inv-loop μ-loop
 same-length c = c .before .loop .inv .3
 
 returns : tie.Need-returns Inv-loop μ-loop
-returns c = λ k l. c .before .loop .inv .6 k (omega arith)
+returns c = (λ k l. c .before .loop .inv .6 k (omega arith), λ k l. c .before .loop .inv .7 k (omega arith))
 
 pub mark-maximal-spec : {M : Type 1} → statement M
 mark-maximal-spec =

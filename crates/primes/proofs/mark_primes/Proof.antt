@@ -1,5 +1,5 @@
 -- `primes::mark_primes` meets its contract: the test by the flags is the test of a prime. Assumes nothing.
-use mathlib.Core.Path.{_≡_, ap, _∙_, subst⁻¹}
+use mathlib.Core.Path.{ap, _∙_, subst⁻¹}
 use Prim.Native.Nat.{ℕ, _^_, _≤_}
 use borrow.Author.Needs.{needs}
 use Rattle.cube.specs.Below.{flag}
@@ -31,10 +31,11 @@ same-length : tie.Need-same-length
 same-length c = search needs
 
 returns : tie.Need-returns
-returns c q l =
+returns c =
     let s = c .before .before .before .before .before .before .before .before .before .before in
-    c .before .before .mark-maximal .ensures q l
-    ∙ ap flag (prime-by-flags (s .args .n) (s .args .table .now) (c .before .before .before .before .before .before .mark-implicants .last .1 .1 .0) (c .before .before .before .before .before .before .mark-implicants .ensures) q l)
+    let implicants = c .before .before .before .before .before .before .mark-implicants in
+    let maximal = c .before .before .mark-maximal .ensures in
+    (λ q l. maximal .0 q l ∙ ap flag (prime-by-flags (s .args .n) (s .args .table .now) (implicants .last .1 .1 .0) (implicants .ensures) q l), maximal .1)
 
 pub mark-primes-spec : {M : Type 1} → statement M
 mark-primes-spec =

@@ -2,8 +2,8 @@
 use mathlib.Core.Path.{_≡_, sym, _∙_}
 use lib.ListN.{length}
 use borrow.Author.Needs.{needs}
-use Rattle.cube.specs.Words.{prime, primesOf}
-use Rattle.cube.proofs.Below.{those-length}
+use Rattle.cube.specs.Words.{primesOf}
+use Rattle.cube.proofs.Calls.{primes-most}
 use Rattle.primes.specs.Primes.{primesRefuses}
 use Rattle.primes.proofs.Listing.{listable, listing-refused, listing-done}
 use Rattle.primes.proofs.primes.Statement.{statement}
@@ -27,11 +27,10 @@ same-length : tie.Need-same-length
 same-length c = search needs
 
 returns-2 : tie.Need-returns-2
-unfolding primesOf
 returns-2 c =
     let s = c .before .before .before .before .before .before .before .before .args in
     listing-done (s .n) (s .table .now) (primesOf (s .n) (s .table .now)) (s .out .now) (none (c .before .before .before .before)) (c .before .before .list-primes .ensures .0)
-    (those-length (prime (s .n) (s .table .now)) _) (c .before .before .list-primes .ensures .1)
+    (primes-most (s .n) (s .table .now)) (c .before .before .list-primes .ensures .1)
 
 pub primes-spec : {M : Type 1} → statement M
 primes-spec = tie.close (tie.spec listing-refusal-requires returns list-primes-requires same-length returns-2)

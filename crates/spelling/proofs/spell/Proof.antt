@@ -5,8 +5,8 @@ use mathlib.Core.List.{[], _∷_}
 use Prim.Native.Nat.{ℕ, _^_, _<_, _≤_}
 use borrow.Author.Needs.{needs}
 use borrow.Author.Tests.{le-leb, lt-leb}
-use Rattle.cube.specs.Words.{Row, valueOf, careOf, rowOf}
-use Rattle.cube.specs.Calls.{badWidth, badCube, when, Answer, refuses, gives, answered}
+use Rattle.cube.specs.Words.{valueOf, careOf, rowOf}
+use Rattle.cube.specs.Calls.{badWidth, badCube, when, refuses, gives, answered}
 use Rattle.cube.proofs.Calls.{width-to, first-holds, first-passes}
 use Rattle.spelling.specs.Spell.{spellRefuses}
 use Rattle.spelling.proofs.spell.Statement.{statement}

@@ -1,0 +1,2 @@
+-- The wrong answers that Cells' promise shuts out.
+pub mod Refuted

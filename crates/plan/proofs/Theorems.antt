@@ -1,0 +1,83 @@
+-- The theorem of `specs/Theorems.antt`: the first places of the arrays are the values and the cares of the list that Plan's promise names, so they are
+-- that list. Assumes nothing.
+use mathlib.Core.Path.{_≡_, refl, sym, ap, ap₂, _∙_, subst⁻¹}
+use mathlib.Core.List.{List, [], _∷_, _++_, map}
+use Prim.Native.Nat.{ℕ, _≤_}
+use native.Mathlib.Omega.{arith}
+use lib.Dec.{T}
+use lib.ListN.{length, length-append, length-map, take, drop}
+use lib.Seq.{take-append-seam}
+use Rattle.cube.specs.Words.{Row, Cover, rowsOf, coverLiterals, numberOf}
+use Rattle.cube.specs.Calls.{written}
+use Rattle.cube.specs.Minimum.{Minimum}
+use Rattle.plan.specs.Plan.{planRefuses, ascending, valuesOf, caresOf, Plans}
+use Rattle.plan.specs.Theorems.{firstPlaces, Held, Delivered, ArraysHold}
+use Rattle.plan.specs.declared.Planned.{Planned}
+use Rattle.plan.specs.declared.Planned.the-variants.{Rows, Refused}
+use Rattle.plan.proofs.Answers.{not-refused, rows-is, bits-is, accepted-refused}
+
+-- the values and the cares of a list are the list
+rows-back : (rs : Cover) → rowsOf (valuesOf rs) (caresOf rs) ≡ rs
+unfolding rowsOf
+rows-back [] = refl
+rows-back (r ∷ rs) = ap (λ (l : Cover). r ∷ l) (rows-back rs)
+
+drop-front : (xs ys : List ℕ) → drop (length xs) (xs ++ ys) ≡ ys
+drop-front [] ys = refl
+drop-front (x ∷ xs) ys = drop-front xs ys
+
+-- an array with a number of each row written from the first place on
+module _ (list : Cover) (f : Row → ℕ) (count : ℕ) (count-is : count ≡ length list) (old new : List ℕ) (new-is : new ≡ map f list ++ drop (length (map f list)) old) where
+  front-is : count ≡ length (map f list)
+  front-is = count-is ∙ sym (length-map list f)
+
+  array-long : count ≤ length new
+  array-long = omega (arith, front-is, ap length new-is ∙ length-append (map f list) (drop (length (map f list)) old))
+
+  array-front : take count new ≡ map f list
+  array-front = ap₂ take front-is new-is ∙ take-append-seam (map f list) (drop (length (map f list)) old)
+
+  array-behind : drop count new ≡ drop count old
+  array-behind =
+      ap₂ drop front-is new-is ∙ drop-front (map f list) (drop (length (map f list)) old) ∙ ap (λ (k : ℕ). drop k old) (sym front-is)
+
+module _ (n : ℕ) (t values cares values′ cares′ : List ℕ) where
+  module _ (rows bits : ℕ) (p : Plans n t values cares values′ cares′ (Rows rows bits)) where
+    accepts : planRefuses n t (length values) (length cares) ≡ 0
+    accepts = not-refused n t values cares values′ cares′ rows bits p
+
+    rows-are : rows ≡ length (p .list)
+    rows-are = rows-is n t values cares values′ cares′ rows bits p
+
+    values-are : values′ ≡ valuesOf (p .list) ++ drop (length (valuesOf (p .list))) values
+    values-are = p .values-are ∙ ap (λ (k : ℕ). written k (valuesOf (p .list)) values) accepts
+
+    cares-are : cares′ ≡ caresOf (p .list) ++ drop (length (caresOf (p .list))) cares
+    cares-are = p .cares-are ∙ ap (λ (k : ℕ). written k (caresOf (p .list)) cares) accepts
+
+    -- the first places hold the list that the promise names
+    pub list-is : firstPlaces rows values′ cares′ ≡ p .list
+    list-is =
+        ap₂ rowsOf (array-front (p .list) (λ r. r .value) rows rows-are values values′ values-are)
+        (array-front (p .list) (λ r. r .care) rows rows-are cares cares′ cares-are)
+        ∙ rows-back (p .list)
+
+    held : Held n t values cares values′ cares′ rows bits
+    held = record {
+      enough-values = array-long (p .list) (λ r. r .value) rows rows-are values values′ values-are;
+      enough-cares = array-long (p .list) (λ r. r .care) rows rows-are cares cares′ cares-are;
+      minimum = subst⁻¹ (Minimum n t) list-is (p .minimum accepts);
+      is-ascending = subst⁻¹ (λ (l : Cover). T (ascending (map (numberOf n) l))) list-is (p .is-ascending accepts);
+      row-count = ap length list-is ∙ sym rows-are;
+      bit-count = ap (coverLiterals n) list-is ∙ sym (bits-is n t values cares values′ cares′ rows bits p);
+      values-behind = array-behind (p .list) (λ r. r .value) rows rows-are values values′ values-are;
+      cares-behind = array-behind (p .list) (λ r. r .care) rows rows-are cares cares′ cares-are;
+    }
+
+  pub arrays-hold : ArraysHold n t values cares values′ cares′
+  arrays-hold = record { counted = held; accepted = delivered }
+    where
+      delivered : (r : Planned) → planRefuses n t (length values) (length cares) ≡ 0 → Plans n t values cares values′ cares′ r
+          → Delivered n t values cares values′ cares′ r
+      delivered (Rows rows bits) e p = record { rows = rows; bits = bits; answer = refl; held = held rows bits p }
+      delivered (Refused k) e p = absurd (accepted-refused n t values cares values′ cares′ k p e)

@@ -1,0 +1,47 @@
+-- Demand 3's sentence about the arrays: what follows from Plan's promise for the first places of both, as many as the row count returned.
+-- `proofs/Theorems.antt` proves it. Assumes nothing.
+use mathlib.Core.Path.{_≡_}
+use mathlib.Core.List.{List, map}
+use Prim.Native.Nat.{ℕ, _≤_}
+use lib.Dec.{T}
+use lib.ListN.{length, take, drop}
+use Rattle.cube.specs.Words.{Cover, rowsOf, coverLiterals, numberOf}
+use Rattle.cube.specs.Minimum.{Minimum}
+use Rattle.plan.specs.Plan.{planRefuses, ascending, Plans}
+use Rattle.plan.specs.declared.Planned.{Planned}
+use Rattle.plan.specs.declared.Planned.the-variants.{Rows}
+
+-- "take from the first place of each as many places as the row count returned."
+abbrev pub firstPlaces : ℕ → List ℕ → List ℕ → Cover
+firstPlaces rows values cares = rowsOf (take rows values) (take rows cares)
+
+-- "They hold a list": the arrays before and after a call, and the counts that it returned
+pub record Held (n : ℕ) (t values cares values′ cares′ : List ℕ) (rows bits : ℕ) : Type 0 where
+  -- each array has so many places
+  pub enough-values : rows ≤ length values′
+  pub enough-cares : rows ≤ length cares′
+  -- "a list of rows of the table's width that matches every wanted mark and no barred one. Every other list [..] has at least as many rows."
+  pub minimum : Minimum n t (firstPlaces rows values′ cares′)
+  -- "ascending by cube number"
+  pub is-ascending : T (ascending (map (numberOf n) (firstPlaces rows values′ cares′)))
+  -- "the row count is its number of rows, the bit count the sum of tested bits over its rows."
+  pub row-count : length (firstPlaces rows values′ cares′) ≡ rows
+  pub bit-count : coverLiterals n (firstPlaces rows values′ cares′) ≡ bits
+  -- "On success, places past the count are unchanged."
+  pub values-behind : drop rows values′ ≡ drop rows values
+  pub cares-behind : drop rows cares′ ≡ drop rows cares
+
+-- the answer to a call that is not refused: two counts, and the arrays hold their list
+pub record Delivered (n : ℕ) (t values cares values′ cares′ : List ℕ) (r : Planned) : Type 0 where
+  pub rows : ℕ
+  pub bits : ℕ
+  pub answer : r ≡ Rows rows bits
+  pub held : Held n t values cares values′ cares′ rows bits
+
+-- what follows for a call, whatever the table and the arrays
+pub record ArraysHold (n : ℕ) (t values cares values′ cares′ : List ℕ) : Type 0 where
+  -- where counts are returned, they are those of the list that the arrays hold
+  pub counted : (rows bits : ℕ) → Plans n t values cares values′ cares′ (Rows rows bits) → Held n t values cares values′ cares′ rows bits
+  -- "For every accepted table, and whatever the two arrays held before": there are counts
+  pub accepted : (r : Planned) → planRefuses n t (length values) (length cares) ≡ 0 → Plans n t values cares values′ cares′ r
+      → Delivered n t values cares values′ cares′ r

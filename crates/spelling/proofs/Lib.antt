@@ -1,0 +1,2 @@
+-- The wrong refusal that Spell's promise shuts out.
+pub mod Refuted
