@@ -6,10 +6,10 @@ use Prim.Native.Nat.{ℕ, _≤_}
 use native.Mathlib.Omega.{arith}
 use lib.ListN.{length, take, drop}
 use lib.Seq.{take-append-seam}
-use Rattle.cube.specs.Below.{every, some, those, run}
+use Rattle.cube.specs.Below.{every, some, those, among, run}
 use Rattle.cube.specs.Words.{Cover, valueOf, careOf, cubeMatches, cubeLiterals, within, implicant, prime, primesOf}
 use Rattle.cube.specs.Calls.{badCell}
-use Rattle.cube.specs.Cases.{among, tableOf, Holds, case-f, cases}
+use Rattle.cube.specs.Cases.{tableOf, Holds, case-f, cases}
 use Rattle.cube.proofs.Cases.{all-cases}
 use Rattle.cube.proofs.Minimum.{shortest}
 use Rattle.plan.specs.Plan.{ascendsFrom, rowsOfCubes}
