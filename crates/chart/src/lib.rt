@@ -1,6 +1,7 @@
 // The chart: a row for each prime, a column for each wanted code.
 //
 //     chart::columns(2, &[1, 0, 2, 1], 2)     // cube 02 matches 0 and 1, of which 0 is wanted: the word 1
+use spelling::MOST_CUBES;
 ghost use mathlib.Core.Path.{_≡_};
 ghost use Prim.Native.Nat.{ℕ, _+_, _*_, _<_, _≤_, _^_};
 ghost use lib.ListN.{length, getD};
@@ -52,7 +53,7 @@ pub fn columns(n: usize, table: &[u8], q: usize) -> u64
 
 // One more if digit k of q is tested.
 fn with_digit(q: usize, k: usize, count: u8) -> u8
-    requires { ⌜ (k < 6) × (count ≤ k) ⌝ }
+    requires { ⌜ (k < widest) × (count ≤ k) ⌝ }
     ensures { λ r. ⌜ r ≡ count + flag (tested (digit k q)) ⌝ }
 {
     if cells::digit(q, k) == 2 {
@@ -87,14 +88,14 @@ fn fill_words(n: usize, table: &[u8], cubes: &[u16], count: usize, words: &mut [
     }
 }
 
-// The tested bits of the first cubes.
-fn fill_literals(n: usize, cubes: &[u16], count: usize, bits: &mut [u8])
-    requires { ⌜ (n ≤ widest) × (count ≤ length (now cubes)) × (count ≤ length (now bits)) ⌝ }
-    ensures { λ _. ⌜ ((i : ℕ) → i < count → getD (now (bits .exit)) i 0 ≡ cubeLiterals n (getD (now (cubes .entry)) i 0)) ⌝ }
+// The tested bits of the first cubes, place by place.
+fn fill_literals(n: usize, cubes: &[u16], count: usize, into: &mut [u8])
+    requires { ⌜ (n ≤ widest) × (count ≤ length (now cubes)) × (count ≤ length (now into)) ⌝ }
+    ensures { λ _. ⌜ ((i : ℕ) → i < count → getD (now (into .exit)) i 0 ≡ cubeLiterals n (getD (now (cubes .entry)) i 0)) ⌝ }
 {
     let mut i = 0;
     while i < count {
-        bits[i] = literals(n, cubes[i] as usize);
+        into[i] = literals(n, cubes[i] as usize);
         i += 1;
     }
 }
@@ -102,9 +103,9 @@ fn fill_literals(n: usize, cubes: &[u16], count: usize, bits: &mut [u8])
 // The chart on parallel arrays: how many rows there are, and place i of each array for the prime at place i.
 pub struct Arrays {
     pub rows: usize,
-    pub cubes: [u16; 729],
-    pub words: [u64; 729],
-    pub literals: [u8; 729],
+    pub cubes: [u16; MOST_CUBES],
+    pub words: [u64; MOST_CUBES],
+    pub literals: [u8; MOST_CUBES],
 }
 
 // The chart of a table of n variables.
@@ -112,16 +113,16 @@ pub fn build(n: usize, table: &[u8]) -> Arrays
     requires { ⌜ (n ≤ widest) × (length (now table) ≡ 2 ^ n) ⌝ }
     ensures { λ r. ⌜ IsChart n (now (table .entry)) r ⌝ }
 {
-    let mut cubes = [0u16; 729];
+    let mut cubes = [0u16; MOST_CUBES];
     let rows = primes::list_primes(n, table, &mut cubes);
-    let mut words = [0u64; 729];
+    let mut words = [0u64; MOST_CUBES];
     fill_words(n, table, &cubes, rows, &mut words);
-    let mut bits = [0u8; 729];
-    fill_literals(n, &cubes, rows, &mut bits);
+    let mut literals = [0u8; MOST_CUBES];
+    fill_literals(n, &cubes, rows, &mut literals);
     Arrays {
         rows,
         cubes,
         words,
-        literals: bits,
+        literals,
     }
 }

@@ -15,7 +15,7 @@ use Rattle.chart.specs.Chart.{primeAt, IsChart}
 use Rattle.chart.specs.declared.Arrays.{Arrays}
 use Rattle.chartrows.specs.declared.ChartRow.{ChartRow}
 use Rattle.chartrows.specs.declared.Prepared.{Prepared}
-use Rattle.chartrows.specs.Rows.{chartRow, chartOf, Charted, rowAt, firstRows, arrayRows, toWrite, Prepares}
+use Rattle.chartrows.specs.Rows.{chartRow, chartOf, Charted, rowAt, firstChartRows, arrayRows, toWrite, Prepares}
 
 -- ---- written one by one
 
@@ -24,17 +24,17 @@ abbrev pub blank : ChartRow
 blank = record { cube = 0; word = 0; literals = 0 }
 
 module _ (c : Arrays) where
-  pub length-first : (m : ℕ) → length (firstRows c m) ≡ m
-  unfolding firstRows
+  pub length-first : (m : ℕ) → length (firstChartRows c m) ≡ m
+  unfolding firstChartRows
   length-first zero = refl
   length-first (suc m) = simp (length-append, length-first m) (add-one m)
 
   -- the first m rows written
   abbrev pub upto : List ChartRow → ℕ → List ChartRow
-  upto old m = firstRows c m ++ drop m old
+  upto old m = firstChartRows c m ++ drop m old
 
   pub upto-none : (old : List ChartRow) → upto old 0 ≡ old
-  unfolding firstRows
+  unfolding firstChartRows
   upto-none old = refl
 
   pub length-upto : (old : List ChartRow) (m : ℕ) → m ≤ length old → length (upto old m) ≡ length old
@@ -42,10 +42,10 @@ module _ (c : Arrays) where
 
   -- one more row
   pub upto-more : (old : List ChartRow) (m : ℕ) → m < length old → set (upto old m) m (rowAt c m) ≡ upto old (m + 1)
-  unfolding firstRows
+  unfolding firstChartRows
   upto-more old m h =
       rw (add-one, drop-cons old m blank h)
-      (set-at (firstRows c m) _ _ (rowAt c m) m (length-first m) ∙ sym (append-assoc (firstRows c m) (rowAt c m ∷ []) (drop (suc m) old)))
+      (set-at (firstChartRows c m) _ _ (rowAt c m) m (length-first m) ∙ sym (append-assoc (firstChartRows c m) (rowAt c m ∷ []) (drop (suc m) old)))
 
 -- ---- a row for each prime
 
@@ -55,8 +55,8 @@ module _ (n : ℕ) (t : List ℕ) (c : Arrays) (h : IsChart n t c) where
       ap (λ (x : ℕ). record { cube = x; word = getD (c .words) i 0; literals = getD (c .literals) i 0 }) (h .cubes i l)
       ∙ ap₂ (λ (x y : ℕ). record { cube = primeAt n t i; word = x; literals = y }) (h .words i l) (h .literals i l)
 
-  first-are : (m : ℕ) → m ≤ c .rows → firstRows c m ≡ map (chartRow n t) (take m (primesOf n t))
-  unfolding firstRows
+  first-are : (m : ℕ) → m ≤ c .rows → firstChartRows c m ≡ map (chartRow n t) (take m (primesOf n t))
+  unfolding firstChartRows
   first-are zero l = refl
   first-are (suc m) l =
       ap₂ (λ (xs : List ChartRow) (x : ChartRow). xs ++ x ∷ []) (first-are m (omega arith)) (row-is m (omega arith))

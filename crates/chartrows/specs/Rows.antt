@@ -33,13 +33,13 @@ abbrev pub rowAt : Arrays → ℕ → ChartRow
 rowAt a i = record { cube = getD (a .cubes) i 0; word = getD (a .words) i 0; literals = getD (a .literals) i 0 }
 
 -- the rows at the places below m
-unfoldable pub firstRows : Arrays → ℕ → List ChartRow
-firstRows a zero = []
-firstRows a (suc m) = firstRows a m ++ (rowAt a m ∷ [])
+unfoldable pub firstChartRows : Arrays → ℕ → List ChartRow
+firstChartRows a zero = []
+firstChartRows a (suc m) = firstChartRows a m ++ (rowAt a m ∷ [])
 
 -- the rows of the chart
 abbrev pub arrayRows : Arrays → List ChartRow
-arrayRows a = firstRows a (a .rows)
+arrayRows a = firstChartRows a (a .rows)
 
 -- the rows to write: those of the list, and none where it is refused
 abbrev pub toWrite : ℕ → List ChartRow → List ChartRow

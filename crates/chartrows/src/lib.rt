@@ -5,6 +5,7 @@
 //     chartrows::chart(2, &[1, 0, 0, 2], &mut rows)   // count 2: cube 0 (00) with the word 1, cube 4 (11) with the word 0
 use chart::Arrays;
 use cube::Counted;
+use spelling::MOST_CUBES;
 ghost use mathlib.Core.Path.{_≡_};
 ghost use mathlib.Core.List.{_++_};
 ghost use Prim.Native.Nat.{_<_, _≤_};
@@ -59,9 +60,9 @@ fn prepare(n: usize, table: &[u8], places: usize) -> Prepared
             refusal: k,
             chart: Arrays {
                 rows: 0,
-                cubes: [0; 729],
-                words: [0; 729],
-                literals: [0; 729],
+                cubes: [0; MOST_CUBES],
+                words: [0; MOST_CUBES],
+                literals: [0; MOST_CUBES],
             },
         };
     }

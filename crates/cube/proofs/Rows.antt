@@ -154,7 +154,7 @@ row-back n r f =
 
 -- ---- from a cube to its row
 
-spells-digit : (d : ℕ) → d < 3 → digitOf (flag (eqb d 1)) (flag (tested d)) ≡ d
+pub spells-digit : (d : ℕ) → d < 3 → digitOf (flag (eqb d 1)) (flag (tested d)) ≡ d
 spells-digit zero l = refl
 spells-digit (suc zero) l = refl
 spells-digit (suc (suc zero)) l = refl

@@ -7,7 +7,7 @@ use mathlib.Core.Bool.{Bool, true, false, cond, not, _&&_, _||_}
 use mathlib.Core.List.{List, [], _∷_}
 use lib.Dec.{eqb, ltb}
 use lib.Bits.{bitAnd}
-use lib.ListN.{getD}
+use lib.ListN.{getD, take}
 use Rattle.cube.specs.Below.{flag, every, some, those}
 
 -- ---- tables
@@ -80,6 +80,10 @@ unfoldable pub rowsOf : List ℕ → List ℕ → Cover
 rowsOf [] ws = []
 rowsOf (v ∷ vs) [] = []
 rowsOf (v ∷ vs) (w ∷ ws) = record { value = v; care = w } ∷ rowsOf vs ws
+
+-- "take from the first place of each as many places as the row count returned."
+abbrev pub firstRows : ℕ → List ℕ → List ℕ → Cover
+firstRows count vs ws = rowsOf (take count vs) (take count ws)
 
 -- code c is as the table asks: matched where wanted, not matched where barred
 abbrev pub asked : List ℕ → Cover → ℕ → Bool

@@ -5,6 +5,7 @@
 //     essentials::essentials(2, &[1, 0, 0, 2], &mut places)   // count 1: cube 0 (00); 11 matches no wanted code
 use cube::Counted;
 use matrix::columns;
+use spelling::MOST_CUBES;
 ghost use mathlib.Core.Path.{_≡_};
 ghost use mathlib.Core.Bool.{cond, not};
 ghost use Prim.Native.Nat.{_<_, _≤_, _^_};
@@ -74,7 +75,7 @@ fn mark_essentials(n: usize, table: &[u8], marks: &mut [u8])
     ensures { λ _. ⌜ Marks (essential n (now (table .entry))) (now (marks .exit)) (3 ^ n) ⌝ }
 {
     primes::mark_primes(n, table, marks);
-    let mut words = [0u64; 729];
+    let mut words = [0u64; MOST_CUBES];
     prime_words(n, table, marks, &mut words);
     let cubes = spelling::cubes(n);
     let sole = sole_columns(&words, cubes);
@@ -87,7 +88,7 @@ fn list_essentials(n: usize, table: &[u8], out: &mut [u16]) -> usize
     ensures { λ r. ⌜ (r ≡ length (essentialsOf n (now (table .entry))))
         × (now (out .exit) ≡ sets (now (out .entry)) 0 (essentialsOf n (now (table .entry)))) ⌝ }
 {
-    let mut marks = [0u8; 729];
+    let mut marks = [0u8; MOST_CUBES];
     mark_essentials(n, table, &mut marks);
     primes::list_marked(n, &marks, out)
 }

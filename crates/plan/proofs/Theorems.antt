@@ -7,11 +7,11 @@ use native.Mathlib.Omega.{arith}
 use lib.Dec.{T}
 use lib.ListN.{length, length-append, length-map, take, drop}
 use lib.Seq.{take-append-seam}
-use Rattle.cube.specs.Words.{Row, Cover, rowsOf, coverLiterals, numberOf}
+use Rattle.cube.specs.Words.{Row, Cover, rowsOf, firstRows, coverLiterals, numberOf}
 use Rattle.cube.specs.Calls.{written}
 use Rattle.cube.specs.Minimum.{Minimum}
 use Rattle.plan.specs.Plan.{planRefuses, ascending, valuesOf, caresOf, Plans}
-use Rattle.plan.specs.Theorems.{firstPlaces, Held, Delivered, ArraysHold}
+use Rattle.plan.specs.Theorems.{Held, Delivered, ArraysHold}
 use Rattle.plan.specs.declared.Planned.{Planned}
 use Rattle.plan.specs.declared.Planned.the-variants.{Rows, Refused}
 use Rattle.plan.proofs.Answers.{not-refused, rows-is, bits-is, accepted-refused}
@@ -56,7 +56,7 @@ module _ (n : ℕ) (t values cares values′ cares′ : List ℕ) where
     cares-are = p .cares-are ∙ ap (λ (k : ℕ). written k (caresOf (p .list)) cares) accepts
 
     -- the first places hold the list that the promise names
-    pub list-is : firstPlaces rows values′ cares′ ≡ p .list
+    pub list-is : firstRows rows values′ cares′ ≡ p .list
     list-is =
         ap₂ rowsOf (array-front (p .list) (λ r. r .value) rows rows-are values values′ values-are)
         (array-front (p .list) (λ r. r .care) rows rows-are cares cares′ cares-are)

@@ -4,16 +4,12 @@ use mathlib.Core.Path.{_≡_}
 use mathlib.Core.List.{List, map}
 use Prim.Native.Nat.{ℕ, _≤_}
 use lib.Dec.{T}
-use lib.ListN.{length, take, drop}
-use Rattle.cube.specs.Words.{Cover, rowsOf, coverLiterals, numberOf}
+use lib.ListN.{length, drop}
+use Rattle.cube.specs.Words.{firstRows, coverLiterals, numberOf}
 use Rattle.cube.specs.Minimum.{Minimum}
 use Rattle.plan.specs.Plan.{planRefuses, ascending, Plans}
 use Rattle.plan.specs.declared.Planned.{Planned}
 use Rattle.plan.specs.declared.Planned.the-variants.{Rows}
-
--- "take from the first place of each as many places as the row count returned."
-abbrev pub firstPlaces : ℕ → List ℕ → List ℕ → Cover
-firstPlaces rows values cares = rowsOf (take rows values) (take rows cares)
 
 -- "They hold a list": the arrays before and after a call, and the counts that it returned
 pub record Held (n : ℕ) (t values cares values′ cares′ : List ℕ) (rows bits : ℕ) : Type 0 where
@@ -21,12 +17,12 @@ pub record Held (n : ℕ) (t values cares values′ cares′ : List ℕ) (rows b
   pub enough-values : rows ≤ length values′
   pub enough-cares : rows ≤ length cares′
   -- "a list of rows of the table's width that matches every wanted mark and no barred one. Every other list [..] has at least as many rows."
-  pub minimum : Minimum n t (firstPlaces rows values′ cares′)
+  pub minimum : Minimum n t (firstRows rows values′ cares′)
   -- "ascending by cube number"
-  pub is-ascending : T (ascending (map (numberOf n) (firstPlaces rows values′ cares′)))
+  pub is-ascending : T (ascending (map (numberOf n) (firstRows rows values′ cares′)))
   -- "the row count is its number of rows, the bit count the sum of tested bits over its rows."
-  pub row-count : length (firstPlaces rows values′ cares′) ≡ rows
-  pub bit-count : coverLiterals n (firstPlaces rows values′ cares′) ≡ bits
+  pub row-count : length (firstRows rows values′ cares′) ≡ rows
+  pub bit-count : coverLiterals n (firstRows rows values′ cares′) ≡ bits
   -- "On success, places past the count are unchanged."
   pub values-behind : drop rows values′ ≡ drop rows values
   pub cares-behind : drop rows cares′ ≡ drop rows cares

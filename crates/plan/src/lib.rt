@@ -6,6 +6,8 @@
 //     plan::plan(2, &[0, 1, 1, 1], &mut values, &mut cares)   // 2 rows, 2 bits: 1- and -1, values 2 1, cares 2 1
 use matrix::rows;
 use search::Answer;
+use spelling::MOST_CODES;
+use spelling::MOST_CUBES;
 ghost use mathlib.Core.Path.{_≡_};
 ghost use mathlib.Core.List.{map};
 ghost use Prim.Native.Nat.{ℕ, _+_, _*_, _<_, _≤_, _^_};
@@ -28,7 +30,7 @@ pub enum Planned {
 pub struct Selection {
     pub count: usize,
     pub bits: usize,
-    pub cubes: [u16; 64],
+    pub cubes: [u16; MOST_CODES],
 }
 
 // The weights of the first rows by their tested bits.
@@ -79,7 +81,7 @@ fn lightest<'a>(words: &'a [u64], literals: &'a [u8], rows: usize, columns: u64)
     requires { ⌜ (rows ≤ 729) × (rows ≤ length (now words)) × (rows ≤ length (now literals)) ⌝ }
     ensures { λ r. ⌜ Lightest (take rows (now (words .entry))) (now (literals .entry)) columns r ⌝ }
 {
-    let mut weights = [0u32; 729];
+    let mut weights = [0u32; MOST_CUBES];
     fill_weights(literals, rows, &mut weights);
     search::minimum_cover(&words[..rows], &weights[..rows], columns)
 }
@@ -96,7 +98,7 @@ pub fn shortest(n: usize, table: &[u8]) -> Selection
         chart.rows,
         chart::row_columns(table, 0, 0),
     );
-    let mut cubes = [0u16; 64];
+    let mut cubes = [0u16; MOST_CODES];
     let count = list_picked(&found.picked, &chart.cubes, chart.rows, &mut cubes);
     Selection {
         count,

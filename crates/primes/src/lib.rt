@@ -5,6 +5,7 @@
 //     primes::primes(2, &[1, 0, 0, 2], &mut places)   // count 2: cubes 0 (00) and 4 (11)
 use cells::Split;
 use cube::Counted;
+use spelling::MOST_CUBES;
 ghost use mathlib.Core.Path.{_≡_};
 ghost use Prim.Native.Nat.{_<_, _≤_, _^_};
 ghost use lib.ListN.{length};
@@ -117,7 +118,7 @@ pub fn mark_primes(n: usize, table: &[u8], marks: &mut [u8])
     requires { ⌜ Flagged n (now table) (now marks) ⌝ }
     ensures { λ _. ⌜ Marks (prime n (now (table .entry))) (now (marks .exit)) (3 ^ n) × KeptFrom (3 ^ n) (now (marks .entry)) (now (marks .exit)) ⌝ }
 {
-    let mut flags = [0u8; 729];
+    let mut flags = [0u8; MOST_CUBES];
     mark_implicants(n, table, &mut flags);
     mark_maximal(n, &flags, marks);
 }
@@ -155,7 +156,7 @@ pub fn list_primes(n: usize, table: &[u8], out: &mut [u16]) -> usize
     ensures { λ r. ⌜ (r ≡ length (primesOf n (now (table .entry))))
         × (now (out .exit) ≡ sets (now (out .entry)) 0 (primesOf n (now (table .entry)))) ⌝ }
 {
-    let mut marks = [0u8; 729];
+    let mut marks = [0u8; MOST_CUBES];
     mark_primes(n, table, &mut marks);
     list_marked(n, &marks, out)
 }

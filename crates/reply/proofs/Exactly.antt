@@ -1,8 +1,7 @@
 -- Document 01's example: the four primes of case f are all in its shortest lists, so there is one list, and the checker computes its lines.
 -- Assumes nothing.
 use mathlib.Core.Path.{_≡_, refl, ap, _∙_}
-use mathlib.Core.List.{List}
-use Prim.Native.Nat.{ℕ, _≤_}
+use Prim.Native.Nat.{ℕ}
 use native.Mathlib.Omega.{arith}
 use lib.ListN.{length, take, drop}
 use lib.Seq.{take-append-seam}
@@ -12,7 +11,7 @@ use Rattle.cube.specs.Calls.{badCell}
 use Rattle.cube.specs.Cases.{tableOf, Holds, case-f, cases}
 use Rattle.cube.proofs.Cases.{all-cases}
 use Rattle.cube.proofs.Minimum.{shortest}
-use Rattle.plan.specs.Plan.{ascendsFrom, rowsOfCubes}
+use Rattle.plan.specs.Plan.{ascendsFrom}
 use Rattle.text.specs.Characters.{bytes}
 use Rattle.text.specs.Input.{read, readRun}
 use Rattle.text.specs.Output.{outputOf}

@@ -2,14 +2,13 @@
 -- is no longer is that list. Assumes nothing.
 use mathlib.Core.Path.{_≡_, refl, ap, ap₂, subst⁻¹, _∙_, sym}
 use mathlib.Core.Logic.{⊎-elim}
-use mathlib.Core.Bool.{_&&_, _||_}
 use mathlib.Core.List.{List, [], _∷_, map}
 use Prim.Native.Nat.{ℕ, zero, suc, _<_, _≤_, _^_}
 use native.Mathlib.Nat.{le-of-suc-le-suc}
 use native.Mathlib.Omega.{arith}
 use lib.Dec.{T, eqb, leb, eqb→eq, leb→le, eqb-refl}
 use lib.ListN.{length, length-map, getD}
-use Rattle.cube.specs.Words.{Row, Cover, formed, eachRow, allFormed, numberOf, rowOf, prime, primesOf}
+use Rattle.cube.specs.Words.{Row, Cover, formed, eachRow, allFormed, numberOf, prime, primesOf}
 use Rattle.cube.specs.Minimum.{Minimum}
 use Rattle.cube.specs.Below.{among}
 use Rattle.cube.proofs.Bools.{and-l, and-r, or-e, or-l, or-r}

@@ -14,6 +14,11 @@ ghost use Rattle.spelling.specs.Spell.{spellRefuses, spellAnswer};
 // The widest mark.
 const WIDEST: usize = 6;
 
+// The codes and the cubes of the widest mark: the lengths of arrays that must do for every width.
+pub const MOST_CODES: usize = 64;
+
+pub const MOST_CUBES: usize = 729;
+
 const POWERS_OF_TWO: [usize; 7] = [1, 2, 4, 8, 16, 32, 64];
 
 const POWERS_OF_THREE: [usize; 7] = [1, 3, 9, 27, 81, 243, 729];

@@ -1,29 +1,22 @@
 -- A row's line shows the digits of its cube, by the positions of its bits; and the worked examples, which the checker computes.
 -- Assumes nothing.
-use mathlib.Core.Path.{_≡_, refl, ap, ap₂, _∙_}
-use Prim.Native.Nat.{ℕ, zero, suc, _<_}
+use mathlib.Core.Path.{refl, ap, ap₂, _∙_}
+use Prim.Native.Nat.{ℕ}
 use native.Mathlib.Omega.{arith}
-use lib.Dec.{eqb}
-use Rattle.cube.specs.Below.{flag, run, some}
-use Rattle.cube.specs.Words.{tested, digitOf, coverLiterals, ones}
+use Rattle.cube.specs.Below.{run, some}
+use Rattle.cube.specs.Words.{digitOf, coverLiterals, ones}
 use Rattle.cube.specs.Calls.{badCell}
 use Rattle.cube.specs.Theorems.{digitOfVariable}
 use Rattle.cube.proofs.Positions.{positions}
+use Rattle.cube.proofs.Rows.{spells-digit}
 use Rattle.text.specs.Characters.{character}
 use Rattle.text.specs.Input.{read, readRun}
 use Rattle.text.specs.Output.{decimalBy, listLines}
 use Rattle.text.specs.Theorems.{ShowsDigits, Examples}
 
--- a digit from the two bits that spell it
-digit-back : (d : ℕ) → d < 3 → digitOf (flag (eqb d 1)) (flag (tested d)) ≡ d
-digit-back zero l = refl
-digit-back (suc zero) l = refl
-digit-back (suc (suc zero)) l = refl
-digit-back (suc (suc (suc d))) l = absurd (omega arith)
-
 pub shows-digits : (n q : ℕ) → ShowsDigits n q
 shows-digits n q k v =
-    ap character (ap₂ digitOf (positions n .value q k v) (positions n .care q k v) ∙ digit-back (digitOfVariable n k q) (omega arith))
+    ap character (ap₂ digitOf (positions n .value q k v) (positions n .care q k v) ∙ spells-digit (digitOfVariable n k q) (omega arith))
 
 pub examples : Examples
 unfolding read readRun badCell some run listLines coverLiterals ones decimalBy

@@ -14,7 +14,7 @@ use Rattle.cube.specs.Words.{cell}
 use Rattle.cube.specs.Calls.{badCell, Answer, refuses, gives}
 use Rattle.cube.proofs.Bools.{and-l, and-r, holds}
 use Rattle.cube.proofs.Below.{some-front}
-use Rattle.cube.proofs.Calls.{neither}
+use Rattle.cube.proofs.Calls.{neither, refuses-gives, same-value}
 use Rattle.text.specs.Characters.{lineFeed, digitCharacter, character}
 use Rattle.text.specs.Input.{textOf, InForm, Table, notInForm, isDigit, widthOf, isCell, cellOf, isEnd, before, readRun, ofWidth, read}
 use Rattle.text.specs.Theorems.{Grammar}
@@ -63,13 +63,6 @@ character-of-cell b = zero? (eqb b 48) refl
 
 -- ---- a run
 
--- a refusal is no answer, and an answer is one thing
-never : {A : Type 0} (k : ℕ) (a : A) → refuses k ≡ gives a → ⊥
-never k a e = let z : _≡_ {A = ℕ} 0 1 = cc in omega arith
-
-given : {A : Type 0} (a b : A) → gives a ≡ gives b → a ≡ b
-given a b e = cc
-
 run-read : (cells : List ℕ) → badCell cells ≡ false → readRun (map character cells ++ (lineFeed ∷ [])) ≡ gives cells
 unfolding readRun
 run-read [] e = refl
@@ -86,19 +79,19 @@ record Run (bs cells : List ℕ) : Type 0 where
   text : bs ≡ map character cells ++ (lineFeed ∷ [])
 
 run-ends : (b : ℕ) (bs cells : List ℕ) → b ≡ lineFeed → cond (isEnd bs) (gives []) (refuses notInForm) ≡ gives cells → Run (b ∷ bs) cells
-run-ends b [] cells e h = subst (Run (b ∷ [])) (given [] cells h) (record { meant = meant-none; text = ap (λ (i : ℕ). i ∷ []) e })
-run-ends b (x ∷ bs) cells e h = absurd (never notInForm cells h)
+run-ends b [] cells e h = subst (Run (b ∷ [])) (same-value [] cells h) (record { meant = meant-none; text = ap (λ (i : ℕ). i ∷ []) e })
+run-ends b (x ∷ bs) cells e h = absurd (refuses-gives notInForm cells h)
 
 module _ (b : ℕ) (bs cells : List ℕ) (rest : (cs : List ℕ) → readRun bs ≡ gives cs → Run bs cs) where
   one-more : isCell b ≡ true → (r : Answer (List ℕ)) → readRun bs ≡ r → before (cellOf b) r ≡ gives cells → Run (b ∷ bs) cells
-  one-more e (refuses k) f h = absurd (never k cells h)
+  one-more e (refuses k) f h = absurd (refuses-gives k cells h)
   one-more e (gives cs) f h =
-      subst (Run (b ∷ bs)) (given (cellOf b ∷ cs) cells h)
+      subst (Run (b ∷ bs)) (same-value (cellOf b ∷ cs) cells h)
       (record { meant = meant-more (cellOf b) cs (leb-true (cellOf b) 2 e) (rest cs f .meant); text = ap₂ _∷_ (sym (character-of-cell b e)) (rest cs f .text) })
 
   not-ended : (cell : Bool) → isCell b ≡ cell → cond cell (before (cellOf b) (readRun bs)) (refuses notInForm) ≡ gives cells → Run (b ∷ bs) cells
   not-ended true e h = one-more e (readRun bs) refl h
-  not-ended false e h = absurd (never notInForm cells h)
+  not-ended false e h = absurd (refuses-gives notInForm cells h)
 
   one-byte : (feed : Bool) → eqb b lineFeed ≡ feed
       → cond feed (cond (isEnd bs) (gives []) (refuses notInForm)) (cond (isCell b) (before (cellOf b) (readRun bs)) (refuses notInForm)) ≡ gives cells → Run (b ∷ bs) cells
@@ -107,7 +100,7 @@ module _ (b : ℕ) (bs cells : List ℕ) (rest : (cs : List ℕ) → readRun bs 
 
 run-found : (bs cells : List ℕ) → readRun bs ≡ gives cells → Run bs cells
 unfolding readRun
-run-found [] cells e = absurd (never notInForm cells e)
+run-found [] cells e = absurd (refuses-gives notInForm cells e)
 run-found (b ∷ bs) cells e = one-byte b bs cells (run-found bs) (eqb b lineFeed) refl e
 
 -- ---- the whole text
@@ -127,10 +120,10 @@ reads-form n cells l e =
 
 module _ (d b : ℕ) (bs : List ℕ) (t : Table) where
   with-run : isDigit d ≡ true → b ≡ lineFeed → (r : Answer (List ℕ)) → readRun bs ≡ r → ofWidth (widthOf d) r ≡ gives t → InForm (d ∷ b ∷ bs) (t .width) (t .cells)
-  with-run e f (refuses k) q h = absurd (never k t h)
+  with-run e f (refuses k) q h = absurd (refuses-gives k t h)
   with-run e f (gives cs) q h =
       let found = run-found bs cs q in
-      let same : record { width = widthOf d; cells = cs } ≡ t = given (record { width = widthOf d; cells = cs }) t h in
+      let same : record { width = widthOf d; cells = cs } ≡ t = same-value (record { width = widthOf d; cells = cs }) t h in
       let low = is-digit d e .0 in
       let high = is-digit d e .1 in
       let back : d ≡ digitCharacter (widthOf d) = omega arith in
@@ -144,13 +137,13 @@ module _ (d b : ℕ) (bs : List ℕ) (t : Table) where
   with-feed : (digit feed : Bool) → isDigit d ≡ digit → eqb b lineFeed ≡ feed → cond (digit && feed) (ofWidth (widthOf d) (readRun bs)) (refuses notInForm) ≡ gives t
       → InForm (d ∷ b ∷ bs) (t .width) (t .cells)
   with-feed true true e f h = with-run e (eqb-true b lineFeed f) (readRun bs) refl h
-  with-feed true false e f h = absurd (never notInForm t h)
-  with-feed false feed e f h = absurd (never notInForm t h)
+  with-feed true false e f h = absurd (refuses-gives notInForm t h)
+  with-feed false feed e f h = absurd (refuses-gives notInForm t h)
 
 form-found : (input : List ℕ) (t : Table) → read input ≡ gives t → InForm input (t .width) (t .cells)
 unfolding read
-form-found [] t e = absurd (never notInForm t e)
-form-found (d ∷ []) t e = absurd (never notInForm t e)
+form-found [] t e = absurd (refuses-gives notInForm t e)
+form-found (d ∷ []) t e = absurd (refuses-gives notInForm t e)
 form-found (d ∷ b ∷ bs) t e = with-feed d b bs t (isDigit d) (eqb b lineFeed) refl refl e
 
 -- ---- a text that is not in form
@@ -194,4 +187,4 @@ grammar input = record { in-form = λ n cells. (form-read n cells, form-found in
     none-found f = ⊎-elim (λ e. e) (λ e. absurd (f (e .0 .width) (e .0 .cells) (form-found input (e .0) (e .1)))) (told input)
 
     none-read : read input ≡ refuses notInForm → (n : ℕ) (cells : List ℕ) → InForm input n cells → ⊥
-    none-read e n cells f = never notInForm (record { width = n; cells = cells }) (sym e ∙ form-read n cells f)
+    none-read e n cells f = refuses-gives notInForm (record { width = n; cells = cells }) (sym e ∙ form-read n cells f)

@@ -5,10 +5,10 @@ use mathlib.Core.Path.{_≡_, refl, sym, ap, _∙_}
 use mathlib.Core.Bool.{Bool, true, false, cond, _&&_}
 use mathlib.Core.List.{List, [], _∷_, _++_, append-nil}
 use Prim.Native.Nat.{ℕ}
-use native.Mathlib.Omega.{arith}
 use lib.Dec.{eqb}
 use lib.Seq.{append-snoc}
 use Rattle.cube.specs.Calls.{Answer, refuses, gives}
+use Rattle.cube.proofs.Calls.{refuses-gives}
 use Rattle.cube.proofs.Fronts.{take-cut}
 use Rattle.text.specs.Characters.{lineFeed}
 use Rattle.text.specs.Input.{Table, notInForm, isDigit, widthOf, isCell, cellOf, isEnd, before, readRun, ofWidth, read, mostCells, keep, kept, State, atStart, afterDigit, inRun, atEnd, wrong, stepped, fed, closed}
@@ -87,7 +87,7 @@ whole (d ∷ b ∷ bs) = go (isDigit d)
 -- what is kept of a refusal is the refusal
 refused-whole : (r : Answer Table) (k : ℕ) → kept r ≡ refuses k → r ≡ refuses k
 refused-whole (refuses j) k e = e
-refused-whole (gives t) k e = let z : _≡_ {A = ℕ} 0 1 = cc in absurd (omega arith)
+refused-whole (gives t) k e = absurd (refuses-gives k _ (sym e))
 
 pub stepping : (input : List ℕ) → Stepping input
 stepping input = record {

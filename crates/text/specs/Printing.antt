@@ -4,7 +4,6 @@ use Prim.Native.Nat.{ℕ, _+_, _^_, _≤_}
 use mathlib.Core.List.{List}
 use lib.ListN.{length, take}
 use lib.Seq.{sets}
-use Rattle.cube.specs.Words.{Cover, rowsOf}
 use Rattle.cube.specs.Calls.{widest, written}
 use Rattle.text.specs.Output.{mostOutput}
 
@@ -12,10 +11,6 @@ use Rattle.text.specs.Output.{mostOutput}
 pub record Puts (text old : List ℕ) (at : ℕ) (new : List ℕ) (next : ℕ) : Type 0 where
   pub behind : next ≡ at + length text
   pub places : new ≡ sets old at text
-
--- the first rows of two arrays
-abbrev pub firstRows : ℕ → List ℕ → List ℕ → Cover
-firstRows count values cares = rowsOf (take count values) (take count cares)
 
 -- a list that can be printed: so many rows in two arrays, and a buffer for its lines
 pub record Printable (n : ℕ) (values cares : List ℕ) (count : ℕ) (out : List ℕ) : Type 0 where

@@ -3,12 +3,13 @@ ghost use mathlib.Core.Path.{_≡_};
 ghost use mathlib.Core.List.{[], _∷_, _++_};
 ghost use Prim.Native.Nat.{_+_, _*_, _<_, _≤_};
 ghost use lib.ListN.{length};
+ghost use Rattle.cube.specs.Words.{firstRows};
 ghost use Rattle.cube.specs.Theorems.{Variable};
 ghost use Rattle.cube.specs.Calls.{widest};
 ghost use Rattle.text.specs.Characters.{lineFeed, digitCharacter};
 ghost use Rattle.text.specs.Output.{characterOfVariable, rowLine, listLines, listed, refused, mostOutput};
 ghost use Rattle.text.specs.Output.{decimal as inDecimal, totals as totalLine};
-ghost use Rattle.text.specs.Printing.{Puts, firstRows, Printable, Prints};
+ghost use Rattle.text.specs.Printing.{Puts, Printable, Prints};
 
 // The longest output: 64 lines of 7 bytes, and the last line with two numbers of 20 digits.
 pub const MOST_OUTPUT: usize = 500;

@@ -11,12 +11,12 @@ use Rattle.chart.proofs.fill_literals.Statement.{statement}
 use Rattle.chart.proofs.fill_literals.Tie as tie
 
 abbrev Inv-loop : tie.InvT-loop
-Inv-loop n cubes count bits₀ i₀ bits i =
-    (n ≤ widest) × (count ≤ length cubes) × (count ≤ length bits) × (length bits ≡ length bits₀) × (i ≤ count)
-    × ((k : ℕ) → k < i → getD bits k 0 ≡ cubeLiterals n (getD cubes k 0))
+Inv-loop n cubes count into₀ i₀ into i =
+    (n ≤ widest) × (count ≤ length cubes) × (count ≤ length into) × (length into ≡ length into₀) × (i ≤ count)
+    × ((k : ℕ) → k < i → getD into k 0 ≡ cubeLiterals n (getD cubes k 0))
 
 abbrev μ-loop : tie.MeasureT-loop
-μ-loop n cubes count bits₀ i₀ bits i = count - i
+μ-loop n cubes count into₀ i₀ into i = count - i
 
 loop-holds : tie.Need-loop-holds Inv-loop μ-loop
 loop-holds c = (search needs, search needs, search needs, refl, search needs, λ k l. absurd (omega arith))
@@ -33,8 +33,8 @@ cast-literals c = omega (arith, c .shared-slice-known2 .given (c .before .before
 literals-requires : tie.Need-literals-requires Inv-loop μ-loop
 literals-requires c κs = omega arith
 
-slice-write-bits : tie.Need-slice-write-bits Inv-loop μ-loop
-slice-write-bits c = omega arith
+slice-write-into : tie.Need-slice-write-into Inv-loop μ-loop
+slice-write-into c = omega arith
 
 add-i : tie.Need-add-i Inv-loop μ-loop
 add-i c = omega arith
@@ -51,7 +51,7 @@ loop-again c =
       simp length-set (i .2),
       simp length-set (i .3),
       omega arith,
-      fill-more (λ k. cubeLiterals (a .n) (getD (a .cubes .now) k 0)) (c .before .before .before .loop .bits) _ _ (slice-write-bits c) (i .5) (c .literals .ensures),
+      fill-more (λ k. cubeLiterals (a .n) (getD (a .cubes .now) k 0)) (c .before .before .before .loop .into) _ _ (slice-write-into c) (i .5) (c .literals .ensures),
     )
 
 same-length : tie.Need-same-length Inv-loop μ-loop
@@ -63,5 +63,5 @@ returns c = λ k l. c .before .loop .inv .5 k (omega arith)
 pub fill-literals-spec : {M : Type 1} → statement M
 fill-literals-spec =
     tie.close
-    (tie.spec Inv-loop μ-loop loop-holds mul-literals shared-slice-read-literals cast-literals literals-requires slice-write-bits add-i loop-less loop-again
+    (tie.spec Inv-loop μ-loop loop-holds mul-literals shared-slice-read-literals cast-literals literals-requires slice-write-into add-i loop-less loop-again
     same-length returns)

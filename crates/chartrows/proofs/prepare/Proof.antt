@@ -8,7 +8,7 @@ use Rattle.cube.proofs.Calls.{cubes-most, primes-most}
 use Rattle.primes.specs.Primes.{primesRefuses}
 use Rattle.primes.proofs.Listing.{Listable, listable}
 use Rattle.chartrows.specs.declared.ChartRow.{ChartRow}
-use Rattle.chartrows.specs.Rows.{firstRows, toWrite}
+use Rattle.chartrows.specs.Rows.{firstChartRows, toWrite}
 use Rattle.chartrows.proofs.RowLists.{chart-rows}
 use Rattle.chartrows.proofs.prepare.Statement.{statement}
 use Rattle.chartrows.proofs.prepare.Tie as tie
@@ -24,7 +24,7 @@ listing-refusal-requires : tie.Need-listing-refusal-requires
 listing-refusal-requires c κs = search needs
 
 returns : tie.Need-returns
-unfolding firstRows
+unfolding firstChartRows
 returns c = record { refusal = c .before .listing-refusal .ensures; fits = (omega arith, omega arith); rows = nothing _ _ (c .if1 .taken) }
 
 build-requires : tie.Need-build-requires
