@@ -15,6 +15,7 @@ use Rattle.cube.specs.Cases.{Case, tableOf, Holds, AllHold, cases}
 use Rattle.cube.proofs.Bools.{and-l, and-r}
 use Rattle.cube.proofs.Independent.{Mark, apartFrom, independent, total, bounded}
 
+-- a list, and the codes that show that none is better
 record Certificate : Type 0 where
   list : Cover
   marks : List Mark

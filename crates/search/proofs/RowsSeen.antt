@@ -11,6 +11,7 @@ use Rattle.matrix.proofs.Walks.{all-first, all-turn}
 use Rattle.matrix.proofs.Without.{each-row}
 use Rattle.search.specs.Search.{Preferred, RowFor}
 
+-- of the live rows before i, best is one for the column c, or it is n and none of them is
 pub record SoFar (words live : List ℕ) (c n i best : ℕ) : Type 0 where
   pub within : best ≤ n
   pub here : best < n → Member live best × covers words best c

@@ -1,4 +1,4 @@
--- `examples::charts::codes` meets its contract, which is safety. Assumes nothing.
+-- `examples::charts::codes` is safe and ends. Assumes nothing.
 use borrow.Author.Needs.{needs}
 use Prim.Native.Nat.{_-_, _≤_}
 use Rattle.examples.proofs.charts.codes.Statement.{statement}

@@ -1,4 +1,4 @@
--- `examples::charts::rows` meets its contract, which is safety. Assumes nothing.
+-- `examples::charts::rows` is safe and ends. Assumes nothing.
 use borrow.Author.Needs.{needs}
 use Prim.Native.Nat.{_-_, _≤_}
 use Rattle.examples.proofs.charts.rows.Statement.{statement}

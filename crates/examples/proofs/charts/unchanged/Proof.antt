@@ -1,4 +1,4 @@
--- `examples::charts::unchanged` meets its contract, which is safety. Assumes nothing.
+-- `examples::charts::unchanged` is safe and ends. Assumes nothing.
 use borrow.Author.Needs.{needs}
 use Prim.Native.Nat.{_-_, _≤_}
 use Rattle.examples.proofs.charts.unchanged.Statement.{statement}

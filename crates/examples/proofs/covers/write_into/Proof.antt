@@ -1,4 +1,4 @@
--- `examples::covers::write_into` meets its contract, which is safety. Assumes nothing.
+-- `examples::covers::write_into` is safe and ends. Assumes nothing.
 use native.Mathlib.Omega.{arith}
 use lib.ListN.{length-take}
 use borrow.Author.Needs.{needs}

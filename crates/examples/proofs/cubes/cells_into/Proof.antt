@@ -1,4 +1,4 @@
--- `examples::cubes::cells_into` meets its contract, which is safety. Assumes nothing.
+-- `examples::cubes::cells_into` is safe and ends. Assumes nothing.
 use native.Mathlib.Omega.{arith}
 use lib.ListN.{length-take}
 use borrow.Author.Needs.{needs}

@@ -1,4 +1,4 @@
--- `examples::print::bytes` meets its contract, which is safety. Assumes nothing.
+-- `examples::print::bytes` is safe and ends. Assumes nothing.
 use Prim.Native.Nat.{_-_, _≤_}
 use borrow.Author.Needs.{needs}
 use lib.ListN.{length}

@@ -1,4 +1,4 @@
--- `examples::terms::changed` meets its contract, which is safety. Assumes nothing.
+-- `examples::terms::changed` is safe and ends. Assumes nothing.
 use borrow.Author.Needs.{needs}
 use Prim.Native.Nat.{_-_, _≤_}
 use lib.ListN.{length}

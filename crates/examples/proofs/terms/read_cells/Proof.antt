@@ -1,4 +1,4 @@
--- `examples::terms::read_cells` meets its contract, which is safety. Assumes nothing.
+-- `examples::terms::read_cells` is safe and ends. Assumes nothing.
 use borrow.Author.Needs.{needs}
 use native.Mathlib.Omega.{arith}
 use Prim.Native.Nat.{_-_, _≤_}

@@ -1,4 +1,4 @@
--- `examples::terms::term` meets its contract, which is safety. Assumes nothing.
+-- `examples::terms::term` is safe and ends. Assumes nothing.
 use borrow.Author.Needs.{needs}
 use native.Mathlib.Omega.{arith}
 use Prim.Native.Nat.{_≤_}

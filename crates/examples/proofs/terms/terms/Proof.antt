@@ -1,4 +1,4 @@
--- `examples::terms::terms` meets its contract, which is safety. Assumes nothing.
+-- `examples::terms::terms` is safe and ends. Assumes nothing.
 use borrow.Author.Needs.{needs}
 use native.Mathlib.Omega.{arith}
 use Prim.Native.Nat.{_-_, _≤_}

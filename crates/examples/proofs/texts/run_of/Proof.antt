@@ -1,4 +1,4 @@
--- `examples::texts::run_of` meets its contract, which is safety. Assumes nothing.
+-- `examples::texts::run_of` is safe and ends. Assumes nothing.
 use native.Mathlib.Omega.{arith}
 use lib.ListN.{length-take, length-set, length-replicate}
 use borrow.Author.Needs.{needs}

@@ -1,4 +1,4 @@
--- `examples::texts::said` meets its contract, which is safety. Assumes nothing.
+-- `examples::texts::said` is safe and ends. Assumes nothing.
 use native.Mathlib.Omega.{arith}
 use lib.ListN.{length-take}
 use borrow.Author.Needs.{needs}
