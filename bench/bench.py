@@ -4,10 +4,11 @@
     bench/bench.py               the listed tables, and random ones
     bench/bench.py --quick       the listed tables alone, without the other solvers
 
-It builds bench/solve.c over the proved search, takes the charts from tests/charts.py, compares
-every optimum with the listed one and with that of glpsol and cbc, and prints the times of whole
-processes and their ratios. Run from the top of the repository. What is missing of Debian's
-glpk-utils and coinor-cbc it installs by apt-get.
+It builds bench/solve.c over the proved search and bench/stack.c over Plan for C, takes the
+charts from tests/charts.py, compares every optimum with the listed one and with that of glpsol
+and cbc, and prints the times of whole processes, their ratios and the stack that was used. Run
+from the top of the repository. What is missing of Debian's glpk-utils and coinor-cbc it installs
+by apt-get.
 """
 import ctypes
 import os
@@ -22,6 +23,7 @@ sys.path.insert(0, "tests")
 import charts
 
 TABLES = "tests/tables/hard6.txt"
+DENSE = "tests/tables/dense.txt"
 OUT = "target/bench"
 PROBLEM = OUT + "/problem.lp"
 SOLVERS = {"glpsol": "glpk-utils", "cbc": "coinor-cbc"}
@@ -43,14 +45,19 @@ def timed(words, **more):
     return text, min(wall), min(processor)
 
 
+def build(program, library):
+    run(["rt", "staticlib", library])
+    run(["cc", "-O2", "-static", "-Iinclude", "-o", OUT + "/" + program, "bench/%s.c" % program, "target/staticlib/lib%s.a" % library, "-lpthread"])
+
+
 def prepare(quick):
     os.makedirs(OUT, exist_ok=True)
     missing = [] if quick else [package for solver, package in SOLVERS.items() if not shutil.which(solver)]
     if missing:
         run(["apt-get", "update"])
         run(["apt-get", "install", "-y", "--no-install-recommends"] + missing)
-    run(["rt", "staticlib", "search_c"])
-    run(["cc", "-O2", "-static", "-o", OUT + "/solve", "bench/solve.c", "target/staticlib/libsearch_c.a", "-lpthread"])
+    build("solve", "search_c")
+    build("stack", "installer")
 
 
 def search(texts):
@@ -156,6 +163,7 @@ def main(words):
     wrong = report("hard6", [charts.chart(width, cells) for width, cells, _ in tables], [weight for _, _, weight in tables], solvers, True)
     if not quick:
         wrong += report("random", charts.random_charts(1956, 500), None, solvers, False)
+    print("\nrows_plan on the tables of tests/tables: stack: %s bytes" % run([OUT + "/stack", TABLES, DENSE]).strip())
     sys.exit("%d answers are wrong" % wrong if wrong else 0)
 
 

@@ -25,12 +25,15 @@ static double microseconds(void) {
 /* The next number of standard input; whether there is one. */
 static int number(uint64_t *value) {
     int byte = getchar_unlocked();
-    while (byte != EOF && !isxdigit(byte))
+    while (byte != EOF && !isxdigit(byte)) {
         byte = getchar_unlocked();
-    if (byte == EOF)
+    }
+    if (byte == EOF) {
         return 0;
-    for (*value = 0; isxdigit(byte); byte = getchar_unlocked())
+    }
+    for (*value = 0; isxdigit(byte); byte = getchar_unlocked()) {
         *value = *value * 16 + (byte <= '9' ? byte - '0' : byte - 'a' + 10);
+    }
     return 1;
 }
 
@@ -66,19 +69,22 @@ int main(int count, char **words) {
         return 0;
     }
     unsigned char *stack;
-    if (posix_memalign((void **)&stack, 4096, STACK))
+    if (posix_memalign((void **)&stack, 4096, STACK)) {
         return 1;
+    }
     memset(stack, PAINT, STACK);
     pthread_attr_t attributes;
     pthread_t thread;
     pthread_attr_init(&attributes);
     pthread_attr_setstack(&attributes, stack, STACK);
-    if (pthread_create(&thread, &attributes, solve_all, NULL))
+    if (pthread_create(&thread, &attributes, solve_all, NULL)) {
         return 1;
+    }
     pthread_join(thread, NULL);
     size_t left = 0;
-    while (left < STACK && stack[left] == PAINT)
+    while (left < STACK && stack[left] == PAINT) {
         left++;
+    }
     printf("stack %zu\n", STACK - left);
     return 0;
 }

@@ -8,7 +8,7 @@
  *
  * The caller owns all memory. Each array is lent for the call only, with the length that is stated;
  * no two of them may overlap, and none may be NULL (for a length of 0, any other address will do).
- * Nothing is kept and nothing is allocated. A call needs stack: rows_plan took about 120 KB at most
+ * Nothing is kept and nothing is allocated. A call needs stack: rows_plan took about 125 KB at most
  * on the tables of tests/tables, measured on x86-64, which is no proved bound. Apart from that, no
  * call fails in another way than by its answer.
  *
