@@ -9,7 +9,7 @@ use native.Mathlib.Omega.{arith}
 use lib.Dec.{eqb, ltb, lit<}
 use lib.Pow.{pow-pos, pow-add}
 use borrow.Author.Tests.{lt-ltb, le-ltb}
-use Rattle.cube.specs.Below.{flag}
+use Rattle.numbers.specs.Below.{flag}
 use Rattle.cube.proofs.Bools.{is-true, is-false, lt-or-le}
 use Rattle.cube.proofs.Digits.{flag-lt}
 use Rattle.matrix.specs.Sets.{has}

@@ -3,7 +3,7 @@
 use Prim.Native.Nat.{ℕ, zero, suc, _+_, _*_, _^_}
 use mathlib.Core.Bool.{Bool, _&&_}
 use mathlib.Core.List.{List}
-use Rattle.cube.specs.Below.{flag}
+use Rattle.numbers.specs.Below.{flag}
 use Rattle.cube.specs.Words.{onSet, rowMatches, cubeMatches}
 
 -- the word whose bit c is set for each c below m that passes

@@ -5,7 +5,7 @@ use spelling::MOST_CUBES;
 ghost use mathlib.Core.Path.{_≡_};
 ghost use Prim.Native.Nat.{ℕ, _+_, _*_, _<_, _≤_, _^_};
 ghost use lib.ListN.{length, getD};
-ghost use Rattle.cube.specs.Below.{flag};
+ghost use Rattle.numbers.specs.Below.{flag};
 ghost use Rattle.cube.specs.Calls.{widest};
 ghost use Rattle.cube.specs.Words.{tested, digit, cubeLiterals};
 ghost use Rattle.chart.specs.Columns.{wordOf, columnsOf, rowColumn};

@@ -4,7 +4,7 @@ use mathlib.Core.List.{List, [], _∷_}
 use Prim.Native.Nat.{ℕ}
 use native.Mathlib.Omega.{arith}
 use lib.ListN.{replicate}
-use Rattle.cube.specs.Below.{some}
+use Rattle.numbers.specs.Below.{some}
 use Rattle.cube.specs.Words.{rowsOf}
 use Rattle.cube.specs.Calls.{badCell}
 use Rattle.cube.proofs.Calls.{answered-refuses}

@@ -6,7 +6,7 @@ use mathlib.Core.Bool.{Bool, cond, not, _&&_, _||_}
 use mathlib.Core.List.{List, [], _∷_, _++_}
 use lib.Dec.{T}
 use lib.ListN.{length}
-use Rattle.cube.specs.Below.{those}
+use Rattle.numbers.specs.Below.{those}
 use Rattle.cube.specs.Words.{onSet, offSet, Cover, coverMatches, rowsOf}
 use Rattle.cube.specs.Calls.{widest, firstOf, tableConditions, listConditions, Answer, refuses, gives, answered}
 use Rattle.checking.specs.declared.Checked.{Checked}

@@ -9,8 +9,9 @@ use native.Mathlib.Decide.{ℕ-discrete}
 use native.Mathlib.Omega.{arith}
 use lib.Dec.{ltb}
 use borrow.Author.Tests.{ltb-true, lt-ltb}
+use Rattle.numbers.specs.Below.{those}
 use Rattle.covering.specs.Sum.{pick, sum}
-use Rattle.covering.specs.Cover.{Within, Hits, weight, AtLeast, Minimum, Cover, rowsOf, total}
+use Rattle.covering.specs.Cover.{Within, Hits, weight, AtLeast, Minimum, Cover, total}
 use Rattle.covering.specs.Search.{none, Reduced, Answers}
 use Rattle.covering.proofs.Flags.{not-set}
 use Rattle.covering.proofs.Sums.{sum-most, sum-skip, pick-le, pick-false}
@@ -53,28 +54,28 @@ module _ (cov : ℕ → ℕ → Type 0) (w : ℕ → ℕ) (n : ℕ) where
 
 -- ---- a set as a selection
 
-rows-within : (A : ℕ → Type 0) (n : ℕ) (p : ℕ → Bool) → ((i : ℕ) → p i ≡ true → A i) → Within A (rowsOf n p)
-unfolding rowsOf
+rows-within : (A : ℕ → Type 0) (n : ℕ) (p : ℕ → Bool) → ((i : ℕ) → p i ≡ true → A i) → Within A (those n p)
+unfolding those
 rows-within A zero p f = tt
-rows-within A (suc n) p f = within-append A (rowsOf n p) (cond (p n) (n ∷ []) []) (rows-within A n p f) (last (p n) refl)
+rows-within A (suc n) p f = within-append A (those n p) (cond (p n) (n ∷ []) []) (rows-within A n p f) (last (p n) refl)
   where
     last : (b : Bool) → p n ≡ b → Within A (cond b (n ∷ []) [])
     last true e = (f n e, tt)
     last false e = tt
 
-rows-hit : (cov : ℕ → ℕ → Type 0) (c n : ℕ) (p : ℕ → Bool) (i : ℕ) → i < n → p i ≡ true → cov i c → Hits cov (rowsOf n p) c
-unfolding rowsOf
+rows-hit : (cov : ℕ → ℕ → Type 0) (c n : ℕ) (p : ℕ → Bool) (i : ℕ) → i < n → p i ≡ true → cov i c → Hits cov (those n p) c
+unfolding those
 rows-hit cov c zero p i l e h = absurd (omega arith)
-rows-hit cov c (suc n) p i l e h = hits-append cov (rowsOf n p) (cond (p n) (n ∷ []) []) c (go (ℕ-discrete i n) (λ k. rows-hit cov c n p i k e h))
+rows-hit cov c (suc n) p i l e h = hits-append cov (those n p) (cond (p n) (n ∷ []) []) c (go (ℕ-discrete i n) (λ k. rows-hit cov c n p i k e h))
   where
-    go : Dec (i ≡ n) → (i < n → Hits cov (rowsOf n p) c) → Hits cov (rowsOf n p) c ⊎ Hits cov (cond (p n) (n ∷ []) []) c
+    go : Dec (i ≡ n) → (i < n → Hits cov (those n p) c) → Hits cov (those n p) c ⊎ Hits cov (cond (p n) (n ∷ []) []) c
     go (yes d) ih = inr (subst (λ (b : Bool). Hits cov (cond b (n ∷ []) []) c) (sym (ap p (sym d) ∙ e)) (inl (subst (λ (x : ℕ). cov x c) d h)))
     go (no d) ih = inl (ih (omega arith))
 
-rows-weight : (w : ℕ → ℕ) (n : ℕ) (p : ℕ → Bool) → weight w (rowsOf n p) ≡ total w n p
-unfolding rowsOf sum
+rows-weight : (w : ℕ → ℕ) (n : ℕ) (p : ℕ → Bool) → weight w (those n p) ≡ total w n p
+unfolding those sum
 rows-weight w zero p = refl
-rows-weight w (suc n) p = omega (arith, weight-append w (rowsOf n p) (cond (p n) (n ∷ []) []), rows-weight w n p, last (p n))
+rows-weight w (suc n) p = omega (arith, weight-append w (those n p) (cond (p n) (n ∷ []) []), rows-weight w n p, last (p n))
   where
     last : (b : Bool) → weight w (cond b (n ∷ []) []) ≡ pick b (w n)
     last true = omega arith
@@ -83,7 +84,7 @@ rows-weight w (suc n) p = omega (arith, weight-append w (rowsOf n p) (cond (p n)
 -- An answer is a minimum cover, where the rows are those below n, each column has one, and all of them together weigh less than the limit.
 pub minimum : (cov : ℕ → ℕ → Type 0) (w : ℕ → ℕ) (N n m : ℕ) {A U : ℕ → Type 0} {limit k : ℕ} {p : ℕ → Bool} → n ≤ N → ((i : ℕ) → A i → i < n) → ((i : ℕ) → i < n → A i)
     → ((c : ℕ) → U c → (i : ℕ) × (i < n) × cov i c) → ((i : ℕ) → w i ≤ m) → n * m < limit → Answers cov w N A U limit k p
-    → Minimum cov w (λ i. i < n) U (rowsOf n p) k
+    → Minimum cov w (λ i. i < n) U (those n p) k
 minimum cov w N n m {A} {U} {limit} {k} {p} le below all row most l f = record {
   within = rows-within (λ i. i < n) n p (λ i e. below i (found .live i e));
   covers = λ c u. let t = found .covers c u in rows-hit cov c n p (t .0) (below (t .0) (found .live (t .0) (t .1))) (t .1) (t .2);
@@ -94,14 +95,14 @@ minimum cov w N n m {A} {U} {limit} {k} {p} le below all row most l f = record {
     every : ℕ → Bool
     every i = ltb i n
 
-    light : weight w (rowsOf n every) ≤ n * m
+    light : weight w (those n every) ≤ n * m
     light = omega (arith, rows-weight w n every, sum-most n m {f = λ i. pick (every i) (w i)} (λ i. omega (arith, pick-le (every i) (w i), most i)))
 
     found : Cover cov w N A U p k
     found = f .cover (omega (
       arith,
       light,
-      f .low .bound (rowsOf n every) (rows-within A n every (λ i e. all i (ltb-true i n e)))
+      f .low .bound (those n every) (rows-within A n every (λ i e. all i (ltb-true i n e)))
           (λ c u. let t = row c u in rows-hit cov c n every (t .0) (t .1) (lt-ltb (t .0) n (t .1)) (t .2)),
     ))
 

@@ -1,10 +1,10 @@
 -- Weighted covers. Rows and columns are numbers, `cov r c` says that the row r covers the column c, and `w r` is the weight of the row r. Sets of
 -- rows and of columns are arbitrary predicates: nothing here says how many there are or how they are stored. Definitions only. Assumes nothing.
 use mathlib.Core.Path.{_≡_}
-use mathlib.Core.List.{List, [], _∷_, _++_}
+use mathlib.Core.List.{List, [], _∷_}
 use mathlib.Core.Logic.{_⊎_}
-use mathlib.Core.Bool.{Bool, true, cond}
-use Prim.Native.Nat.{ℕ, zero, suc, _+_, _≤_}
+use mathlib.Core.Bool.{Bool, true}
+use Prim.Native.Nat.{ℕ, _+_, _≤_}
 use Rattle.covering.specs.Sum.{pick, sum}
 
 -- A selection is a list of rows, in any order and with repeats. Each row of it is one of A.
@@ -36,11 +36,6 @@ pub record Minimum (cov : ℕ → ℕ → Type 0) (w : ℕ → ℕ) (A U : ℕ �
   pub covers : Covers cov U L
   pub weighs : weight w L ≡ k
   pub least : (M : List ℕ) → Within A M → Covers cov U M → k ≤ weight w M
-
--- a set of rows below n as a selection, ascending
-unfoldable pub rowsOf : ℕ → (ℕ → Bool) → List ℕ
-rowsOf zero p = []
-rowsOf (suc n) p = rowsOf n p ++ cond (p n) (n ∷ []) []
 
 -- what the rows of a set below n weigh, and how many there are
 abbrev pub total : (ℕ → ℕ) → ℕ → (ℕ → Bool) → ℕ

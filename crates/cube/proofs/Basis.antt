@@ -7,7 +7,7 @@ use Prim.Native.Nat.{ℕ, _^_, _<_, _≤_}
 use native.Mathlib.Omega.{arith}
 use lib.Dec.{T, eqb, eqb→eq, eqb-refl}
 use lib.ListN.{length, length-map}
-use Rattle.cube.specs.Below.{among}
+use Rattle.numbers.specs.Below.{among}
 use Rattle.cube.specs.Words.{Cover, rowMatches, formed, eachRow, allFormed, coverMatches, coverLiterals, cubeMatches, rowOf, numberOf, implicant, prime}
 use Rattle.cube.specs.Minimum.{Minimum, EquivalentSum, FewestTerms}
 use Rattle.cube.specs.McCluskey.{SingleAsterisk, Selection, BasisRows, sumOf, Basis}

@@ -10,7 +10,7 @@ use native.Mathlib.Omega.{arith}
 use lib.Dec.{T, eqb, eqb→eq, eqb-refl}
 use lib.ListN.{length, length-append, getD, List·getD-append}
 use lib.Seq.{getD-append-seam}
-use Rattle.cube.specs.Below.{flag, every, some, those, count, Lists, run}
+use Rattle.numbers.specs.Below.{flag, every, some, those, count, Lists, run}
 use Rattle.cube.proofs.Bools.{and-l, and-r, and-i, or-e, or-l, or-r, or-exchange, not-e, not-i, same, is-true, is-false, holds, lt-or-le}
 use Rattle.cube.proofs.Digits.{flag-lt}
 

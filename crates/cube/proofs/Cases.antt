@@ -9,7 +9,7 @@ use native.Mathlib.Nat.{eq-or-lt-of-le}
 use native.Mathlib.Omega.{arith}
 use lib.Dec.{T, eqb, eqb→eq}
 use lib.ListN.{length}
-use Rattle.cube.specs.Below.{every, some, those, among, run}
+use Rattle.numbers.specs.Below.{every, some, those, among, run}
 use Rattle.cube.specs.Words.{Row, Cover, rowMatches, formed, ones, eachRow, allFormed, coverMatches, coverLiterals, implements, cubeMatches, cubeLiterals, within, implicant, prime, alone, essential, primesOf, essentialsOf}
 use Rattle.cube.specs.Cases.{Case, tableOf, Holds, AllHold, cases}
 use Rattle.cube.proofs.Bools.{and-l, and-r}

@@ -9,7 +9,7 @@ use native.Mathlib.Nat.{not-suc-le-zero, le-of-suc-le-suc, pow-suc}
 use native.Mathlib.Omega.{arith}
 use lib.Dec.{T, eqb, lit<}
 use lib.ListN.{length}
-use Rattle.cube.specs.Below.{flag, every, those}
+use Rattle.numbers.specs.Below.{flag, every, those}
 use Rattle.cube.specs.Words.{offSet, fits, tested, digit, cubeMatches, cubeLiterals, valueOf, codesOf, implicant}
 use Rattle.cube.proofs.Bools.{and-l, and-r, fits-e}
 use Rattle.cube.proofs.Below.{those-one, those-split, those-length}

@@ -9,7 +9,7 @@ use native.Mathlib.Nat.{not-suc-le-zero, le-of-suc-le-suc, mod-lt, pow-suc, pow-
 use native.Mathlib.Omega.{arith}
 use lib.Dec.{T, eqb, lit<}
 use borrow.Author.Tests.{eq-eqb, ne-eqb}
-use Rattle.cube.specs.Below.{flag}
+use Rattle.numbers.specs.Below.{flag}
 use Rattle.cube.specs.Words.{fits, tested, digit, cubeMatches, cubeLiterals, valueOf}
 use Rattle.cube.proofs.Bools.{and-l, and-r, and-i, fits-e, fits-two, fits-same, eq-or-ne}
 

@@ -7,7 +7,7 @@ use mathlib.Core.List.{List}
 use Prim.Native.Nat.{ℕ, zero, suc, _^_, _<_}
 use native.Mathlib.Omega.{arith}
 use lib.Dec.{T, eqb, ltb, eqb→eq, lit<, ltb→lt, lt→ltb}
-use Rattle.cube.specs.Below.{some}
+use Rattle.numbers.specs.Below.{some}
 use Rattle.cube.specs.Words.{offSet, tested, digit, cubeMatches, cubeLiterals, valueOf, within, implicant, wider, prime}
 use Rattle.cube.proofs.Bools.{and-l, and-r, and-i, imp-e, imp-i, nand-e, nand-i, not-e, not-i, same, holds, eqb-of}
 use Rattle.cube.proofs.Below.{every-at, every-by, some-at, none-at, none-by}

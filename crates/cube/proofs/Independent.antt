@@ -8,7 +8,7 @@ use Prim.Native.Nat.{ℕ, suc, _+_, _^_, _≤_}
 use native.Mathlib.Omega.{arith}
 use lib.Dec.{T, ltb, leb, leb→le, ltb→lt}
 use lib.ListN.{length}
-use Rattle.cube.specs.Below.{every}
+use Rattle.numbers.specs.Below.{every}
 use Rattle.cube.specs.Words.{onSet, Row, Cover, rowMatches, formed, rowLiterals, eachRow, allFormed, coverMatches, coverLiterals, implements, cubeMatches, cubeLiterals, numberOf, implicant}
 use Rattle.cube.proofs.Bools.{and-l, and-r, and-i, or-e, or-l, or-r, imp-e, nand-e}
 use Rattle.cube.proofs.Below.{every-at}

@@ -12,7 +12,7 @@ use lib.Seq.{sets, length-sets, sets-eq, take-length, getD-set-same, getD-set-ot
 use borrow.Author.Count.{below-more}
 use borrow.Rule.Slice.PartMut.{midOf, putMid, mid-len, post-is}
 use borrow.Table.Elements.{map-app, length-take-le}
-use Rattle.cube.specs.Below.{those}
+use Rattle.numbers.specs.Below.{those}
 use Rattle.cube.proofs.Below.{those-length}
 use Rattle.cube.proofs.Fronts.{take-more}
 

@@ -6,7 +6,7 @@ use mathlib.Core.List.{List, [], _∷_}
 use Prim.Native.Nat.{ℕ, suc}
 use native.Mathlib.Omega.{arith}
 use lib.ListN.{length, getD}
-use Rattle.cube.specs.Below.{some}
+use Rattle.numbers.specs.Below.{some}
 use Rattle.cube.specs.Words.{Row, Cover, rowMatches, formed, eachRow, coverMatches, rowsOf}
 use Rattle.cube.specs.Calls.{badRow}
 use Rattle.cube.proofs.Bools.{not-and}

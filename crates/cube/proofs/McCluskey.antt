@@ -8,7 +8,7 @@ use mathlib.Core.List.{List}
 use Prim.Native.Nat.{ℕ, zero, suc, _+_, _-_, _^_, _<_}
 use native.Mathlib.Omega.{arith}
 use lib.Dec.{T, eqb, eqb→eq, lit<}
-use Rattle.cube.specs.Below.{some}
+use Rattle.numbers.specs.Below.{some}
 use Rattle.cube.specs.Words.{tested, digit, cubeMatches, cubeLiterals, valueOf, implicant, prime, essential, primesOf, essentialsOf}
 use Rattle.cube.specs.McCluskey.{listed, BinaryEquivalent, IdenticalExcept, Combination, Character, Checked, PrimeImplicant, cross, SingleAsterisk, Agreement}
 use Rattle.cube.proofs.Bools.{and-l, and-r, and-i, not-e, not-i, holds, fits-same, eqb-of}

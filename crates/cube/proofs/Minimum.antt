@@ -9,7 +9,7 @@ use native.Mathlib.Nat.{eq-or-lt-of-le}
 use native.Mathlib.Omega.{arith}
 use lib.Dec.{T}
 use lib.ListN.{length, length-append}
-use Rattle.cube.specs.Below.{some}
+use Rattle.numbers.specs.Below.{some}
 use Rattle.cube.specs.Words.{onSet, offSet, Row, Cover, rowMatches, formed, eachRow, allFormed, coverMatches, coverLiterals, implements, rowOf, numberOf, implicant, wider, prime}
 use Rattle.cube.specs.Minimum.{NoBetter, Minimum, EquivalentSum, MinimumSum, Shortest}
 use Rattle.cube.proofs.Bools.{and-l, and-r, and-i, or-e, or-l, or-r, holds}

@@ -7,7 +7,7 @@ use native.Mathlib.Nat.{not-suc-le-zero, le-of-suc-le-suc}
 use native.Mathlib.Omega.{arith}
 use lib.Dec.{T, eqb}
 use lib.ListN.{length}
-use Rattle.cube.specs.Below.{flag, those}
+use Rattle.numbers.specs.Below.{flag, those}
 use Rattle.cube.specs.Words.{ones, fits, tested, digit, cubeMatches, cubeLiterals, valueOf, careOf}
 use Rattle.cube.specs.Theorems.{bitOfVariable, digitOfVariable, Variable, Positions}
 use Rattle.cube.proofs.Below.{count-none, count-suc, those-same}

@@ -8,7 +8,7 @@ use native.Mathlib.Nat.{pow-suc}
 use native.Mathlib.Omega.{arith}
 use lib.Dec.{T, eqb, ltb, eqb→eq, ltb→lt, lt→ltb, lit<}
 use lib.Bits.{bitAnd, and-step, and-zero-r}
-use Rattle.cube.specs.Below.{flag}
+use Rattle.numbers.specs.Below.{flag}
 use Rattle.cube.specs.Words.{Row, rowMatches, formed, ones, rowLiterals, fits, tested, cubeMatches, cubeLiterals, valueOf, careOf, rowOf, digitOf, cubeOf, numberOf}
 use Rattle.cube.proofs.Bools.{and-l, and-r, and-i, same, fits-e, fits-same, eqb-of}
 use Rattle.cube.proofs.Digits.{last-lt, bit-lt, flag-lt, is-tested, last-digit, rest-digits, last-bit, rest-bits, matches-at, literals-at}

@@ -7,7 +7,7 @@ use native.Mathlib.Numerals.{add-one}
 use native.Mathlib.Omega.{arith}
 use lib.Dec.{eqb, lit<}
 use lib.Pow.{mod-pow-add}
-use Rattle.cube.specs.Below.{flag}
+use Rattle.numbers.specs.Below.{flag}
 use Rattle.cube.specs.Words.{tested, valueOf, careOf}
 use Rattle.cube.proofs.Digits.{flag-lt, code-more, last-bit, rest-bits}
 

@@ -8,7 +8,7 @@ use Prim.Native.Nat.{ℕ, zero, suc, _+_, _*_, _-_, _^_, _/_, _<_}
 use native.Mathlib.Nat.{pow-suc, one-le-pow}
 use native.Mathlib.Omega.{arith}
 use lib.Dec.{T, eqb, ltb, eqb→eq, lit<, lt→ltb}
-use Rattle.cube.specs.Below.{some}
+use Rattle.numbers.specs.Below.{some}
 use Rattle.cube.specs.Words.{onSet, offSet, Cover, coverMatches, asked, implements, cubeMatches, cubeLiterals, implicant, within, wider, prime, alone, essential}
 use Rattle.cube.specs.Theorems.{OneToOne, EveryDigitTwo, Meanings}
 use Rattle.cube.proofs.Bools.{and-l, and-r, and-i, imp-e, imp-i, nand-e, nand-i, not-e, not-i, eqb-of, eq-or-ne}

@@ -4,7 +4,7 @@ use Prim.Native.Nat.{ℕ, _^_}
 use mathlib.Core.Bool.{cond}
 use mathlib.Core.List.{List, [], _∷_}
 use lib.ListN.{length}
-use Rattle.cube.specs.Below.{among, run}
+use Rattle.numbers.specs.Below.{among, run}
 use Rattle.cube.specs.Words.{Cover, coverLiterals, primesOf, essentialsOf}
 use Rattle.cube.specs.Minimum.{Minimum}
 

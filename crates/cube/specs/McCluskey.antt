@@ -10,7 +10,7 @@ use mathlib.Core.List.{List, map}
 use Prim.Native.Nat.{ℕ, _^_, _/_, _%_, _<_, _≤_}
 use lib.Dec.{T}
 use lib.ListN.{length}
-use Rattle.cube.specs.Below.{count, among, Lists}
+use Rattle.numbers.specs.Below.{count, among, Lists}
 use Rattle.cube.specs.Words.{onSet, offSet, Cover, coverLiterals, digit, cubeMatches, rowOf, numberOf, implicant, prime, essential, primesOf, essentialsOf}
 use Rattle.cube.specs.Minimum.{Minimum, FewestTerms}
 

@@ -6,7 +6,7 @@ use mathlib.Core.List.{List}
 use Prim.Native.Nat.{ℕ, _-_, _^_, _/_, _%_, _<_, _≤_}
 use lib.Dec.{T, eqb}
 use lib.ListN.{length}
-use Rattle.cube.specs.Below.{flag, those}
+use Rattle.numbers.specs.Below.{flag, those}
 use Rattle.cube.specs.Words.{onSet, offSet, Row, Cover, rowMatches, formed, ones, rowLiterals, coverMatches, implements, fits, tested, digit, cubeMatches, cubeLiterals, valueOf, careOf, rowOf, numberOf, implicant, prime, essential, within}
 
 -- "Variable x1 has the highest weight, 2^(n−1); xn has weight 1 (001).": the bit of variable xk

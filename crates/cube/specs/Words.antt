@@ -8,7 +8,7 @@ use mathlib.Core.List.{List, [], _∷_}
 use lib.Dec.{eqb, ltb}
 use lib.Bits.{bitAnd}
 use lib.ListN.{getD, take}
-use Rattle.cube.specs.Below.{flag, every, some, those}
+use Rattle.numbers.specs.Below.{flag, every, some, those}
 
 -- ---- tables
 

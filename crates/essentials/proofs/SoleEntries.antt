@@ -13,7 +13,7 @@ use lib.Pow.{pow-pos}
 use lib.Dec.{T, eqb, leb, ltb, eqb→eq, ltb→lt, lt→ltb}
 use lib.ListN.{length, getD}
 use borrow.Author.Tests.{le-leb, eq-eqb, ne-eqb}
-use Rattle.cube.specs.Below.{flag}
+use Rattle.numbers.specs.Below.{flag}
 use Rattle.cube.specs.Words.{onSet, cubeMatches, prime, essential, primesOf}
 use Rattle.cube.specs.McCluskey as mccluskey
 use Rattle.cube.proofs.Bools.{and-l, and-r, and-i, not-e, not-i, same, is-true, holds, eqb-of}

@@ -6,7 +6,7 @@ use mathlib.Core.Bool.{cond}
 use mathlib.Core.List.{List}
 use lib.Dec.{eqb, leb}
 use lib.ListN.{length, getD}
-use Rattle.cube.specs.Below.{those}
+use Rattle.numbers.specs.Below.{those}
 use Rattle.cube.specs.Words.{prime}
 use Rattle.matrix.specs.Sets.{has}
 use Rattle.chart.specs.Columns.{columnsOf}

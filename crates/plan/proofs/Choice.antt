@@ -1,8 +1,8 @@
 -- The chosen list: the cubes of the picked rows are those of a shortest list, and its counts are read off the weight. Assumes nothing.
 use mathlib.Core.Path.{_≡_, refl, sym, ap, ap₂, _∙_, subst, subst⁻¹}
-use mathlib.Core.Bool.{Bool, _&&_, cond}
+use mathlib.Core.Bool.{Bool, _&&_}
 use mathlib.Core.List.{List, [], _∷_, _++_, map}
-use Prim.Native.Nat.{ℕ, zero, suc, _+_, _*_, _-_, _^_, _<_, _≤_}
+use Prim.Native.Nat.{ℕ, suc, _+_, _*_, _-_, _^_, _<_, _≤_}
 use native.Mathlib.Nat.{mul-le-mul-left}
 use native.Mathlib.Omega.{arith}
 use lib.Bits.{and-zero-r}
@@ -10,7 +10,7 @@ use lib.Dec.{T, eqb, leb, le→leb, ltb, ltb→lt, lt→ltb}
 use lib.ListN.{length, length-map, take, drop, getD}
 use lib.Seq.{sets, length-sets, getD-take, take-append-seam}
 use borrow.Table.Elements.{length-take-le}
-use Rattle.cube.specs.Below.{those}
+use Rattle.numbers.specs.Below.{those}
 use Rattle.cube.specs.Words.{onSet, Cover, rowMatches, coverLiterals, rowOf, primesOf}
 use Rattle.cube.specs.Calls.{widest}
 use Rattle.cube.specs.Minimum as lists
@@ -19,7 +19,7 @@ use Rattle.cube.proofs.Below.{those-ascend}
 use Rattle.cube.proofs.Calls.{codes-most, cubes-most, primes-most}
 use Rattle.cube.proofs.Lent.{sets-front}
 use Rattle.cube.proofs.Minimum.{minimum-rows}
-use Rattle.covering.specs.Cover.{Within, Minimum, rowsOf}
+use Rattle.covering.specs.Cover.{Within, Minimum}
 use Rattle.matrix.specs.Sets.{has, In, member}
 use Rattle.matrix.specs.Matrix.{covers, weightOf}
 use Rattle.chart.specs.Columns.{wordOf, rowColumn}
@@ -30,12 +30,6 @@ use Rattle.plan.specs.Plan.{rowWeight, rowsOfCubes, Lightest, ascendsFro
 use Rattle.search.specs.Search.{Coverable}
 use Rattle.search.specs.declared.Answer.{Answer}
 use Rattle.plan.proofs.Selections.{ChartOf, cubeAt, listOf, list-weight, minimum-list, coverable, cubes-below, ascending-list}
-
--- the selection of a set of rows is the list of those in the set
-rows-those : (m : ℕ) (p : ℕ → Bool) → rowsOf m p ≡ those m p
-unfolding rowsOf those
-rows-those zero p = refl
-rows-those (suc m) p = ap (λ (l : List ℕ). l ++ cond (p m) (m ∷ []) []) (rows-those m p)
 
 -- a row that tests nothing matches every code, so its columns are the wanted codes
 module _ (n : ℕ) (t : List ℕ) (cells : length t ≡ 2 ^ n) where
@@ -118,8 +112,7 @@ module _ (n : ℕ) (t : List ℕ) (width : n ≤ widest) (cells : length t ≡ 2
   unfolding words L
   minimum-selection =
       subst (λ (k : ℕ). Minimum (covers words) (weightOf (light .weights)) (λ i. i < k) (In u) L (found .weight)) (chart .rows)
-      (subst (λ (l : List ℕ). Minimum (covers words) (weightOf (light .weights)) (λ i. i < a .rows) (In u) l (found .weight)) (rows-those (a .rows) (member (found .picked)))
-      (subst (λ (k : ℕ). Minimum (covers words) (weightOf (light .weights)) (λ i. i < k) (In u) (rowsOf k (member (found .picked))) (found .weight)) words-long (light .minimum (subst⁻¹ (Coverable words) u-is each-column))))
+      (subst (λ (k : ℕ). Minimum (covers words) (weightOf (light .weights)) (λ i. i < k) (In u) (those k (member (found .picked))) (found .weight)) words-long (light .minimum (subst⁻¹ (Coverable words) u-is each-column)))
 
   list : Cover
   list = listOf n t words (light .weights) of-chart L

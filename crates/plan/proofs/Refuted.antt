@@ -5,7 +5,7 @@ use mathlib.Core.List.{List, [], _∷_}
 use Prim.Native.Nat.{ℕ, zero, suc}
 use native.Mathlib.Omega.{arith}
 use lib.ListN.{length, getD, replicate}
-use Rattle.cube.specs.Below.{every, some, among, run}
+use Rattle.numbers.specs.Below.{every, some, among, run}
 use Rattle.cube.specs.Words.{rowMatches, coverMatches, rowsOf, implements, cubeOf}
 use Rattle.cube.specs.Calls.{badCell, gives, answered}
 use Rattle.cube.specs.Cases.{Case, tableOf, Holds, case-a, case-b, case-e, case-f, case-g, case-h, case-j, cases}

@@ -13,7 +13,7 @@ ghost use mathlib.Core.List.{map};
 ghost use Prim.Native.Nat.{ℕ, _+_, _*_, _<_, _≤_, _^_};
 ghost use lib.ListN.{length, take, getD};
 ghost use lib.Seq.{sets};
-ghost use Rattle.cube.specs.Below.{those};
+ghost use Rattle.numbers.specs.Below.{those};
 ghost use Rattle.cube.specs.Calls.{widest};
 ghost use Rattle.cube.specs.Words.{valueOf, careOf};
 ghost use Rattle.matrix.specs.Sets.{member};

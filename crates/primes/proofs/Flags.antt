@@ -7,7 +7,7 @@ use native.Mathlib.Nat.{add-mul, sub-add-cancel, le-of-suc-le-suc}
 use native.Mathlib.Omega.{arith}
 use lib.Dec.{eqb, lit<}
 use mir.Val.{boolByte}
-use Rattle.cube.specs.Below.{flag}
+use Rattle.numbers.specs.Below.{flag}
 use Rattle.cube.specs.Words.{tested, digit, implicant, prime}
 use Rattle.cube.proofs.Below.{some-same}
 use Rattle.cube.proofs.Digits.{putDigit, put-lt, put-weight, digit-lt}

@@ -8,7 +8,7 @@ use native.Mathlib.Nat.{le-trans}
 use lib.ListN.{length}
 use lib.Seq.{sets}
 use borrow.Author.Tests.{ltb-false, lt-ltb, le-ltb}
-use Rattle.cube.specs.Below.{those}
+use Rattle.numbers.specs.Below.{those}
 use Rattle.cube.specs.Calls.{short, firstOf, tableConditions, Listed}
 use Rattle.cube.specs.declared.Counted.the-variants.{Count, Refused}
 use Rattle.cube.proofs.Below.{those-same}

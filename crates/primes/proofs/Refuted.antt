@@ -5,7 +5,7 @@ use mathlib.Core.List.{List, [], _∷_}
 use Prim.Native.Nat.{ℕ}
 use native.Mathlib.Omega.{arith}
 use lib.ListN.{length, getD}
-use Rattle.cube.specs.Below.{every, some, those}
+use Rattle.numbers.specs.Below.{every, some, those}
 use Rattle.cube.specs.Words.{cubeMatches, cubeLiterals, within, implicant, prime, primesOf}
 use Rattle.cube.specs.Calls.{badCell, Listed}
 use Rattle.cube.specs.declared.Counted.{Counted}

@@ -6,7 +6,7 @@ use mathlib.Core.Bool.{Bool, not, _&&_}
 use mathlib.Core.List.{List, [], _∷_}
 use lib.Dec.{eqb}
 use lib.ListN.{length, getD}
-use Rattle.cube.specs.Below.{flag, some}
+use Rattle.numbers.specs.Below.{flag, some}
 use Rattle.cube.specs.Words.{tested, digit}
 use Rattle.cube.specs.Calls.{widest, badWidth, badLength, badCell, short, when, firstOf}
 

@@ -10,7 +10,7 @@ ghost use mathlib.Core.Path.{_≡_};
 ghost use Prim.Native.Nat.{_<_, _≤_, _^_};
 ghost use lib.ListN.{length};
 ghost use lib.Seq.{sets};
-ghost use Rattle.cube.specs.Below.{flag, those};
+ghost use Rattle.numbers.specs.Below.{flag, those};
 ghost use Rattle.cube.specs.Words.{implicant, prime, primesOf};
 ghost use Rattle.cube.specs.Calls.{widest, badCell, tableConditions, firstOf, Listed};
 ghost use Rattle.primes.specs.Primes.{primesRefuses, Flagged, Marks, KeptFrom, isMarked, expandsBy, primeBy};

@@ -5,7 +5,7 @@ use Prim.Native.Nat.{ℕ}
 use native.Mathlib.Omega.{arith}
 use lib.ListN.{length, take, drop}
 use lib.Seq.{take-append-seam}
-use Rattle.cube.specs.Below.{every, some, those, among, run}
+use Rattle.numbers.specs.Below.{every, some, those, among, run}
 use Rattle.cube.specs.Words.{Cover, valueOf, careOf, cubeMatches, cubeLiterals, within, implicant, prime, primesOf}
 use Rattle.cube.specs.Calls.{badCell}
 use Rattle.cube.specs.Cases.{tableOf, Holds, case-f, cases}

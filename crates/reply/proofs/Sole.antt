@@ -10,7 +10,7 @@ use lib.Dec.{T, eqb, leb, eqb→eq, leb→le, eqb-refl}
 use lib.ListN.{length, length-map, getD}
 use Rattle.cube.specs.Words.{Row, Cover, formed, eachRow, allFormed, numberOf, prime, primesOf}
 use Rattle.cube.specs.Minimum.{Minimum}
-use Rattle.cube.specs.Below.{among}
+use Rattle.numbers.specs.Below.{among}
 use Rattle.cube.proofs.Bools.{and-l, and-r, or-e, or-l, or-r}
 use Rattle.cube.proofs.Below.{those-place}
 use Rattle.cube.proofs.Minimum.{shortest}

@@ -6,7 +6,8 @@ use mathlib.Core.Logic.{_⊎_}
 use Prim.Native.Nat.{ℕ, _+_, min, _≤_, _<_}
 use lib.Dec.{eqb}
 use lib.ListN.{length}
-use Rattle.covering.specs.Cover.{Minimum, Cover, rowsOf}
+use Rattle.numbers.specs.Below.{those}
+use Rattle.covering.specs.Cover.{Minimum, Cover}
 use Rattle.covering.specs.Search.{Answers}
 use Rattle.matrix.specs.Sets.{In, member, Member}
 use Rattle.matrix.specs.Matrix.{covers, weightOf}
@@ -20,7 +21,7 @@ Coverable words columns = (c : ℕ) → In columns c → (i : ℕ) × (i < lengt
 -- rows that covers every column weighs at least as much.
 abbrev pub MinimumCover : List ℕ → List ℕ → ℕ → ℕ → List ℕ → Type 0
 MinimumCover words weights columns weight picked =
-    Minimum (covers words) (weightOf weights) (λ i. i < length words) (In columns) (rowsOf (length words) (member picked)) weight
+    Minimum (covers words) (weightOf weights) (λ i. i < length words) (In columns) (those (length words) (member picked)) weight
 
 -- the answer of a search below a limit
 abbrev pub Found : List ℕ → List ℕ → List ℕ → ℕ → ℕ → ℕ → List ℕ → Type 0

@@ -3,7 +3,7 @@
 use mathlib.Core.Path.{refl, ap, ap₂, _∙_}
 use Prim.Native.Nat.{ℕ}
 use native.Mathlib.Omega.{arith}
-use Rattle.cube.specs.Below.{run, some}
+use Rattle.numbers.specs.Below.{run, some}
 use Rattle.cube.specs.Words.{digitOf, coverLiterals, ones}
 use Rattle.cube.specs.Calls.{badCell}
 use Rattle.cube.specs.Theorems.{digitOfVariable}

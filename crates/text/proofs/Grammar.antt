@@ -9,7 +9,7 @@ use native.Mathlib.Omega.{arith}
 use lib.Dec.{T, eqb, leb, ltb, leb→le}
 use lib.ListN.{length}
 use borrow.Author.Tests.{eqb-true, leb-true, le-leb, le-ltb, ltb-false}
-use Rattle.cube.specs.Below.{some}
+use Rattle.numbers.specs.Below.{some}
 use Rattle.cube.specs.Words.{cell}
 use Rattle.cube.specs.Calls.{badCell, Answer, refuses, gives}
 use Rattle.cube.proofs.Bools.{and-l, and-r, holds}

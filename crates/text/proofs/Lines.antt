@@ -7,7 +7,7 @@ use native.Mathlib.Nat.{zero-add, add-zero}
 use native.Mathlib.Omega.{arith}
 use lib.ListN.{length, length-append, set}
 use lib.Seq.{sets, length-sets, length-take-le}
-use Rattle.cube.specs.Below.{run}
+use Rattle.numbers.specs.Below.{run}
 use Rattle.cube.specs.Words.{Row, Cover}
 use Rattle.cube.specs.Calls.{widest}
 use Rattle.cube.proofs.Below.{run-length}

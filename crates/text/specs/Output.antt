@@ -5,7 +5,7 @@ use mathlib.Core.Bool.{cond}
 use mathlib.Core.List.{List, [], _∷_, _++_}
 use lib.Dec.{ltb}
 use lib.ListN.{length}
-use Rattle.cube.specs.Below.{run}
+use Rattle.numbers.specs.Below.{run}
 use Rattle.cube.specs.Words.{Row, Cover, coverLiterals, digitOf}
 use Rattle.cube.specs.Theorems.{bitOfVariable}
 use Rattle.cube.specs.Calls.{widest, firstOf, tableConditions, Answer, refuses, gives}

@@ -5,7 +5,7 @@ use native.Mathlib.Numerals.{add-one}
 use native.Mathlib.Omega.{arith}
 use lib.ListN.{length}
 use borrow.Author.Needs.{needs}
-use Rattle.cube.specs.Below.{those}
+use Rattle.numbers.specs.Below.{those}
 use Rattle.cube.specs.Words.{tested, digit}
 use Rattle.cube.specs.Calls.{widest}
 use Rattle.cube.proofs.Below.{count-none, count-suc, those-length}

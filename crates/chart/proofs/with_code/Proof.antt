@@ -11,7 +11,7 @@ use lib.ListN.{getD}
 use lib.Pow.{pow-mono, shl-exact}
 use borrow.Author.Needs.{needs}
 use borrow.Author.Tests.{eq-eqb, ne-eqb}
-use Rattle.cube.specs.Below.{flag}
+use Rattle.numbers.specs.Below.{flag}
 use Rattle.cube.specs.Words.{rowMatches}
 use Rattle.chart.specs.Columns.{rowColumn}
 use Rattle.chart.proofs.with_code.Statement.{statement}

@@ -4,7 +4,7 @@ use Prim.Native.Nat.{ℕ, _^_, _<_, _≤_}
 use native.Mathlib.Omega.{arith}
 use lib.ListN.{length}
 use borrow.Author.Needs.{needs}
-use Rattle.cube.specs.Below.{flag}
+use Rattle.numbers.specs.Below.{flag}
 use Rattle.cube.proofs.Calls.{cubes-most}
 use Rattle.essentials.specs.Essentials.{SoleColumns}
 use Rattle.essentials.proofs.SoleEntries.{holder-is-essential}

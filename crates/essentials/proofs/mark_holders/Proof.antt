@@ -7,7 +7,7 @@ use lib.Bits.{bitAnd}
 use lib.Dec.{eqb}
 use lib.ListN.{length, length-set, getD}
 use borrow.Author.Needs.{needs}
-use Rattle.cube.specs.Below.{flag}
+use Rattle.numbers.specs.Below.{flag}
 use Rattle.cube.proofs.Lent.{fill-more}
 use Rattle.primes.specs.Primes.{Marks}
 use Rattle.primes.proofs.Flags.{byte-is}

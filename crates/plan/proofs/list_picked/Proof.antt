@@ -5,7 +5,7 @@ use Prim.Native.Nat.{ℕ, _-_, _≤_}
 use native.Mathlib.Omega.{arith}
 use lib.ListN.{length, getD}
 use borrow.Author.Needs.{needs}
-use Rattle.cube.specs.Below.{those}
+use Rattle.numbers.specs.Below.{those}
 use Rattle.cube.proofs.Below.{count-found}
 use Rattle.cube.proofs.Lent.{Collected, collect-none, collect-yes, collect-no, collect-le, collect-long, collected}
 use Rattle.matrix.specs.Sets.{member}

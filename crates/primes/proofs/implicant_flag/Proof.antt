@@ -8,7 +8,7 @@ use native.Mathlib.Omega.{arith}
 use lib.ListN.{getD}
 use borrow.Author.Needs.{needs}
 use borrow.Author.Tests.{eq-eqb, ne-eqb}
-use Rattle.cube.specs.Below.{flag}
+use Rattle.numbers.specs.Below.{flag}
 use Rattle.cube.specs.Words.{implicant, codesOf}
 use Rattle.cube.proofs.Codes.{implicant-one, implicant-two}
 use Rattle.cells.specs.Cells.{Splits}

@@ -9,7 +9,7 @@ use lib.ListN.{getD}
 use borrow.Author.Count.{below-more}
 use borrow.Author.Needs.{needs}
 use borrow.Author.Tests.{eq-eqb, ne-eqb}
-use Rattle.cube.specs.Below.{some}
+use Rattle.numbers.specs.Below.{some}
 use Rattle.cube.proofs.Below.{some-found, some-none}
 use Rattle.primes.specs.Primes.{expandsBy, primeBy}
 use Rattle.primes.proofs.is_prime.Statement.{statement}

@@ -5,7 +5,7 @@ use native.Mathlib.Omega.{arith}
 use lib.ListN.{length}
 use lib.Seq.{sets}
 use borrow.Author.Needs.{needs}
-use Rattle.cube.specs.Below.{those}
+use Rattle.numbers.specs.Below.{those}
 use Rattle.cube.proofs.Calls.{cubes-most}
 use Rattle.primes.specs.Primes.{isMarked}
 use Rattle.primes.proofs.list_marked.Statement.{statement}

@@ -5,7 +5,7 @@ use native.Mathlib.Omega.{arith}
 use lib.ListN.{length, length-set}
 use lib.Seq.{getD-set-other}
 use borrow.Author.Needs.{needs}
-use Rattle.cube.specs.Below.{flag}
+use Rattle.numbers.specs.Below.{flag}
 use Rattle.cube.specs.Calls.{widest}
 use Rattle.cube.proofs.Lent.{fill-more}
 use Rattle.primes.specs.Primes.{Marks, KeptFrom, primeBy}

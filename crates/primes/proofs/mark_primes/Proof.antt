@@ -2,7 +2,7 @@
 use mathlib.Core.Path.{ap, _∙_, subst⁻¹}
 use Prim.Native.Nat.{ℕ, _^_, _≤_}
 use borrow.Author.Needs.{needs}
-use Rattle.cube.specs.Below.{flag}
+use Rattle.numbers.specs.Below.{flag}
 use Rattle.cube.proofs.Calls.{cubes-most}
 use Rattle.primes.proofs.Flags.{prime-by-flags}
 use Rattle.primes.proofs.mark_primes.Statement.{statement}

@@ -6,7 +6,7 @@ use native.Mathlib.Numerals.{add-one}
 use native.Mathlib.Omega.{arith}
 use lib.ListN.{length}
 use borrow.Author.Needs.{needs}
-use Rattle.cube.specs.Below.{run}
+use Rattle.numbers.specs.Below.{run}
 use Rattle.cube.specs.Calls.{widest}
 use Rattle.cube.proofs.Below.{run-more}
 use Rattle.text.specs.Output.{characterOfVariable}

@@ -1,0 +1,2 @@
+-- The numbers below a bound, and lists of numbers.
+pub mod Below
