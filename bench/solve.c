@@ -4,15 +4,13 @@
  * A problem is written in hexadecimal: the number of rows, the set of columns, and for each row its set of columns and its weight. */
 #include <ctype.h>
 #include <inttypes.h>
-#include <pthread.h>
 #include <stdio.h>
 #include <stdlib.h>
-#include <string.h>
 #include <time.h>
 
+#include "painted.h"
+
 #define MOST_ROWS 768
-#define STACK ((size_t)8 << 20)
-#define PAINT 0xa5
 
 uint64_t minimum_cover(const uint64_t *words, size_t rows, const uint32_t *weights, size_t same, uint64_t columns, uint64_t *effort);
 
@@ -68,23 +66,6 @@ int main(int count, char **words) {
         solve_all(NULL);
         return 0;
     }
-    unsigned char *stack;
-    if (posix_memalign((void **)&stack, 4096, STACK)) {
-        return 1;
-    }
-    memset(stack, PAINT, STACK);
-    pthread_attr_t attributes;
-    pthread_t thread;
-    pthread_attr_init(&attributes);
-    pthread_attr_setstack(&attributes, stack, STACK);
-    if (pthread_create(&thread, &attributes, solve_all, NULL)) {
-        return 1;
-    }
-    pthread_join(thread, NULL);
-    size_t left = 0;
-    while (left < STACK && stack[left] == PAINT) {
-        left++;
-    }
-    printf("stack %zu\n", STACK - left);
+    printf("stack %zu\n", stack_of(solve_all));
     return 0;
 }

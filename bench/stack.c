@@ -1,16 +1,12 @@
-/* Runs rows_plan on the tables of the files named, on a painted stack, and writes how many bytes of it were overwritten. A table is a line with the width
- * and the cells: 0 barred, 1 wanted, - free. */
-#include <pthread.h>
+/* Runs rows_plan on the tables of the files named, and writes how many bytes of stack it needed. A table is a line "width cells rows bits", the cells 0
+ * barred, 1 wanted, - free. */
 #include <stdint.h>
 #include <stdio.h>
-#include <stdlib.h>
-#include <string.h>
 
+#include "painted.h"
 #include "rows.h"
 
 #define MOST_CELLS 64
-#define STACK ((size_t)8 << 20)
-#define PAINT 0xa5
 
 static FILE *tables;
 
@@ -32,27 +28,16 @@ static void *plan_all(void *unused) {
 }
 
 int main(int count, char **names) {
-    unsigned char *stack;
-    pthread_attr_t attributes;
-    pthread_t thread;
-    if (posix_memalign((void **)&stack, 4096, STACK)) {
-        return 1;
-    }
-    memset(stack, PAINT, STACK);
-    pthread_attr_init(&attributes);
-    pthread_attr_setstack(&attributes, stack, STACK);
+    size_t most = 0;
     for (int name = 1; name < count; name++) {
         tables = fopen(names[name], "r");
-        if (!tables || pthread_create(&thread, &attributes, plan_all, NULL)) {
+        if (!tables) {
             return 1;
         }
-        pthread_join(thread, NULL);
+        size_t used = stack_of(plan_all);
+        most = used > most ? used : most;
         fclose(tables);
     }
-    size_t left = 0;
-    while (left < STACK && stack[left] == PAINT) {
-        left++;
-    }
-    printf("%zu\n", STACK - left);
+    printf("%zu\n", most);
     return 0;
 }

@@ -8,18 +8,16 @@ use Rattle.cube.specs.Words.{codesOf}
 use Rattle.cube.specs.Calls.{Listed}
 use Rattle.cube.specs.declared.Counted.{Counted}
 use Rattle.cube.specs.declared.Counted.the-variants.{Refused}
-use Rattle.cube.proofs.Calls.{answered-refuses}
+use Rattle.cube.proofs.Calls.{listed-number}
 use Rattle.cells.specs.Cells.{cellsRefuses}
 
 -- 8 for cube 2187 at width 7
 pub eight-before-one : (old new : List ℕ) → Listed (cellsRefuses 7 2187 (length old)) (codesOf 7 2187) old new (Refused 8) → ⊥
-eight-before-one old new p =
-    let z : _≡_ {A = ℕ} 1 8 = answered-refuses 8 (cellsRefuses 7 2187 (length old)) (length (codesOf 7 2187)) (p .answer) .0 in omega arith
+eight-before-one old new p = let z : _≡_ {A = ℕ} 1 8 = listed-number 8 p in omega arith
 
 -- 4 for a buffer of any length, where the cube number is 729 at width 6
 pub four-before-eight : (old new : List ℕ) → Listed (cellsRefuses 6 729 (length old)) (codesOf 6 729) old new (Refused 4) → ⊥
-four-before-eight old new p =
-    let z : _≡_ {A = ℕ} 8 4 = answered-refuses 4 (cellsRefuses 6 729 (length old)) (length (codesOf 6 729)) (p .answer) .0 in omega arith
+four-before-eight old new p = let z : _≡_ {A = ℕ} 8 4 = listed-number 4 p in omega arith
 
 -- a byte written though the width is refused
 pub written-on-refusal : (r : Counted) → Listed (cellsRefuses 0 0 1) (codesOf 0 0) (7 ∷ []) (0 ∷ []) r → ⊥

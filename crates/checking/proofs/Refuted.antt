@@ -22,7 +22,7 @@ two-before-one vs ws e = let z : _≡_ {A = ℕ} 1 2 = refused-with 7 (1 ∷ [])
 pub three-before-two : (vs ws : List ℕ) → checkAnswer (Refused 3) ≡ checkOf 1 (3 ∷ []) vs ws → ⊥
 three-before-two vs ws e = let z : _≡_ {A = ℕ} 2 3 = refused-with 1 (3 ∷ []) vs ws 3 e in omega arith
 
--- 5 for arrays of unequal length, where a cell is 3
+-- 5 for arrays of any length, where a cell is 3
 pub five-before-three : (vs ws : List ℕ) → checkAnswer (Refused 5) ≡ checkOf 1 (1 ∷ 3 ∷ []) vs ws → ⊥
 unfolding some badCell
 five-before-three vs ws e = let z : _≡_ {A = ℕ} 3 5 = refused-with 1 (1 ∷ 3 ∷ []) vs ws 5 e in omega arith

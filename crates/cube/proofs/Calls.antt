@@ -168,6 +168,10 @@ answered-refuses j (suc k) b e = (sym (same-number j (suc k) e), λ z. omega ari
 
 -- ---- a call that writes a list
 
+-- where it answers a refusal's number, that is what it refuses with
+pub listed-number : {A : Type 0} {refusal : ℕ} {list old new : List A} (k : ℕ) → Listed refusal list old new (Refused k) → refusal ≡ k
+listed-number {refusal = refusal} {list = list} k p = answered-refuses k refusal (length list) (p .answer) .0
+
 -- it refuses, and leaves the places as they were
 pub listed-refused : {refusal : ℕ} {list old : List ℕ} (k : ℕ) → refusal ≡ suc k → Listed refusal list old old (Refused (suc k))
 listed-refused {list = list} {old = old} k e = record {

@@ -11,7 +11,7 @@ use Rattle.cube.specs.Words.{prime}
 use Rattle.matrix.specs.Sets.{has}
 use Rattle.chart.specs.Columns.{columnsOf}
 
--- the words of the cubes below m: its columns for a prime, none for another cube
+-- the words of the cubes below m: the columns of a prime, none for another cube
 abbrev pub PrimeWords : ℕ → List ℕ → List ℕ → ℕ → Type 0
 PrimeWords n t words m = (q : ℕ) → q < m → getD words q 0 ≡ cond (prime n t q) (columnsOf n t q) 0
 

@@ -1,1 +1,2 @@
+-- Local arrays that are lent as slices.
 pub mod LocalArrays

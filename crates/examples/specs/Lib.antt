@@ -1,1 +1,2 @@
+-- What the function that lends chart rows promises.
 pub mod Charts

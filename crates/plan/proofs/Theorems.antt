@@ -6,7 +6,7 @@ use Prim.Native.Nat.{ℕ, _≤_}
 use native.Mathlib.Omega.{arith}
 use lib.Dec.{T}
 use lib.ListN.{length, length-append, length-map, take, drop}
-use lib.Seq.{take-append-seam}
+use lib.Seq.{take-append-seam, drop-append-seam}
 use Rattle.cube.specs.Words.{Row, Cover, rowsOf, firstRows, coverLiterals, numberOf}
 use Rattle.cube.specs.Calls.{written}
 use Rattle.cube.specs.Minimum.{Minimum}
@@ -22,10 +22,6 @@ unfolding rowsOf
 rows-back [] = refl
 rows-back (r ∷ rs) = ap (λ (l : Cover). r ∷ l) (rows-back rs)
 
-drop-front : (xs ys : List ℕ) → drop (length xs) (xs ++ ys) ≡ ys
-drop-front [] ys = refl
-drop-front (x ∷ xs) ys = drop-front xs ys
-
 -- an array with a number of each row written from the first place on
 module _ (list : Cover) (f : Row → ℕ) (count : ℕ) (count-is : count ≡ length list) (old new : List ℕ) (new-is : new ≡ map f list ++ drop (length (map f list)) old) where
   front-is : count ≡ length (map f list)
@@ -39,7 +35,7 @@ module _ (list : Cover) (f : Row → ℕ) (count : ℕ) (count-is : count ≡ le
 
   array-behind : drop count new ≡ drop count old
   array-behind =
-      ap₂ drop front-is new-is ∙ drop-front (map f list) (drop (length (map f list)) old) ∙ ap (λ (k : ℕ). drop k old) (sym front-is)
+      ap₂ drop front-is new-is ∙ drop-append-seam (map f list) (drop (length (map f list)) old) ∙ ap (λ (k : ℕ). drop k old) (sym front-is)
 
 module _ (n : ℕ) (t values cares values′ cares′ : List ℕ) where
   module _ (rows bits : ℕ) (p : Plans n t values cares values′ cares′ (Rows rows bits)) where

@@ -10,7 +10,7 @@ use Rattle.cube.specs.Words.{cubeMatches, cubeLiterals, within, implicant, prim
 use Rattle.cube.specs.Calls.{badCell, Listed}
 use Rattle.cube.specs.declared.Counted.{Counted}
 use Rattle.cube.specs.declared.Counted.the-variants.{Refused}
-use Rattle.cube.proofs.Calls.{answered-refuses}
+use Rattle.cube.proofs.Calls.{listed-number}
 use Rattle.primes.specs.Primes.{primesRefuses}
 
 -- case d of document 01: wanted 0, free 3
@@ -33,18 +33,15 @@ written-on-refusal r p = let z : _≡_ {A = ℕ} 0 7 = ap (λ (l : List ℕ). ge
 -- ---- wrong refusals: the earlier condition wins. The three calls that list cubes, Primes, Essentials and Chart, refuse alike, so `list` is any list.
 
 module _ {A : Type 0} (list old new : List A) where
-  refused-with : (n : ℕ) (t : List ℕ) (k : ℕ) → Listed (primesRefuses n t (length old)) list old new (Refused k) → primesRefuses n t (length old) ≡ k
-  refused-with n t k p = answered-refuses k (primesRefuses n t (length old)) (length list) (p .answer) .0
-
-  -- 4 for places of any number, where a cell is 3
+  -- 4 for any number of places, where a cell is 3
   pub four-before-three : Listed (primesRefuses 1 (1 ∷ 3 ∷ []) (length old)) list old new (Refused 4) → ⊥
   unfolding some badCell
-  four-before-three p = let z : _≡_ {A = ℕ} 3 4 = refused-with 1 (1 ∷ 3 ∷ []) 4 p in omega arith
+  four-before-three p = let z : _≡_ {A = ℕ} 3 4 = listed-number 4 p in omega arith
 
   -- 3 for a cell of a table that has one cell at width 1
   pub three-before-two : Listed (primesRefuses 1 (3 ∷ []) (length old)) list old new (Refused 3) → ⊥
-  three-before-two p = let z : _≡_ {A = ℕ} 2 3 = refused-with 1 (3 ∷ []) 3 p in omega arith
+  three-before-two p = let z : _≡_ {A = ℕ} 2 3 = listed-number 3 p in omega arith
 
   -- 2 for a table of one cell at width 7
   pub two-before-one : Listed (primesRefuses 7 (1 ∷ []) (length old)) list old new (Refused 2) → ⊥
-  two-before-one p = let z : _≡_ {A = ℕ} 1 2 = refused-with 7 (1 ∷ []) 2 p in omega arith
+  two-before-one p = let z : _≡_ {A = ℕ} 1 2 = listed-number 2 p in omega arith

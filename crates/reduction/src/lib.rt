@@ -1,5 +1,5 @@
-// Reductions of a covering problem: row dominance, column dominance, and a column with one row takes it, repeated until no row is dropped or taken. A
-// lightest cover of what is left, with the rows taken, is a lightest cover of the whole.
+// Reductions of a covering problem: row dominance, column dominance, and taking the row of a column that has only one, repeated until no row is dropped or
+// taken. A lightest cover of what is left, with the rows taken, is a lightest cover of the whole.
 //
 // Rows {0, 1}, {1, 2} and {2}, each of weight 1, for the columns 0, 1 and 2: the third row is dropped for the second, and then both rows are taken.
 ghost use Rattle.matrix.specs.Matrix.{Sizes};

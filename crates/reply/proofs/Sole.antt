@@ -1,5 +1,5 @@
--- Where a shortest list has as many rows as there are primes, all primes are in it: an ascending list whose numbers all stand in an ascending list that
--- is no longer is that list. Assumes nothing.
+-- Where a shortest list has as many rows as there are primes, all primes are in it: an ascending list all of whose numbers stand in another ascending
+-- list, and which is at least as long, is that other list. Assumes nothing.
 use mathlib.Core.Path.{_≡_, refl, ap, ap₂, subst⁻¹, _∙_, sym}
 use mathlib.Core.Logic.{⊎-elim}
 use mathlib.Core.List.{List, [], _∷_, map}

@@ -1,3 +1,4 @@
+-- The grammar, stepping and keeping of the input; decimals, lines and examples of the output.
 pub mod Grammar
 pub mod Stepping
 pub mod Keeping
