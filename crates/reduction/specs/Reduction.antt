@@ -47,7 +47,7 @@ pub record CoveredSoFar (words live : List ℕ) (n once twice : ℕ) : Type 0 wh
   pub again : (i : ℕ) → i < n → Member live i → (j : ℕ) → j < i → Member live j → (c : ℕ) → covers words i c → covers words j c → In twice c
 
 -- r is a live row that covers c, unless it is the number of rows n
-pub record FirstRow (words live : List ℕ) (c n r : ℕ) : Type 0 where
+pub record RowFound (words live : List ℕ) (c n r : ℕ) : Type 0 where
   pub within : r ≤ n
   pub here : r < n → Member live r × covers words r c
 

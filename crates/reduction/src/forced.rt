@@ -5,7 +5,7 @@ ghost use Prim.Native.Nat.{ℕ, _≤_, _<_};
 ghost use lib.ListN.{length};
 ghost use Rattle.matrix.specs.Matrix.{Sizes};
 ghost use Rattle.matrix.specs.Sets.{has, Member};
-ghost use Rattle.reduction.specs.Reduction.{FirstRow, OneRow, Onward, Room, RowTaken};
+ghost use Rattle.reduction.specs.Reduction.{RowFound, OneRow, Onward, Room, RowTaken};
 use crate::Remaining;
 use matrix::columns;
 use matrix::rows;
@@ -27,7 +27,7 @@ fn covered_twice(words: &[u64], live: &[u64; 12]) -> u64
 // The first live row that covers the column c, or the number of rows where none does.
 fn row_for(words: &[u64], live: &[u64; 12], c: usize) -> usize
     requires { ⌜ (length (now words) ≤ 768) × (c < 64) ⌝ }
-    ensures { λ r. ⌜ FirstRow (now (words .entry)) (now (live .entry)) c (length (now (words .entry))) r ⌝ }
+    ensures { λ r. ⌜ RowFound (now (words .entry)) (now (live .entry)) c (length (now (words .entry))) r ⌝ }
 {
     let mut i = rows::next(live, 0, words.len());
     while i < words.len() {

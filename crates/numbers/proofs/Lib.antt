@@ -1,0 +1,2 @@
+-- The definitions on one example.
+pub mod Examples
