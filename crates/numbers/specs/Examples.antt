@@ -1,7 +1,7 @@
 -- The definitions on one example: the odd numbers among those below 5. `proofs/Examples.antt` has them computed. Assumes nothing.
 use mathlib.Core.Path.{_≡_}
 use mathlib.Core.Bool.{Bool, true, false}
-use mathlib.Core.List.{List, [], _∷_}
+use mathlib.Core.List.{[], _∷_}
 use Prim.Native.Nat.{ℕ, _*_, _%_}
 use lib.Dec.{eqb}
 use Rattle.numbers.specs.Below.{every, some, those, count, among, run}
