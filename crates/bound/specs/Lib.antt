@@ -1,2 +1,3 @@
--- What prices for the columns show.
+-- What a bound promises, and what prices for the columns show on the way to it.
 pub mod Bound
+pub mod Steps

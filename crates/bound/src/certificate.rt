@@ -2,63 +2,77 @@
 // what all undecided columns are worth. This is checked here, whoever found the prices.
 ghost use mathlib.Core.Path.{_≡_};
 ghost use mathlib.Core.Bool.{true};
-ghost use Prim.Native.Nat.{ℕ, _*_, _^_, _≤_, _<_, min, max};
-ghost use lib.ListN.{length};
-ghost use Rattle.matrix.specs.Matrix.{Sizes, Low};
-ghost use Rattle.bound.specs.Bound.{Valued, Pays, Feasible, Ranges, Kept, Bounds};
+ghost use Prim.Native.Nat.{_≤_, _<_};
+ghost use Rattle.matrix.specs.Sets.{has};
+ghost use Rattle.matrix.specs.Matrix.{rowCount, Sizes};
+ghost use Rattle.bound.specs.Bound.{Limited, Kept, Bounds};
+ghost use Rattle.bound.specs.Steps.{weightLimit, worthLimit, Valued, rowColumns, Pays, Feasible, Ranges, Rounded, Certificate};
 use matrix::columns;
 use matrix::rows;
+
+// A price for each column.
+pub type Prices = [u32; columns::LIMIT];
 
 // A lower bound, and the live rows that a cover below the limit can have.
 pub struct Bounded {
     pub low: u64,
-    pub live: [u64; 12],
+    pub live: rows::Set,
 }
 
+// A price as a number that has room for sums of prices.
 fn wide(x: u32) -> u64
-    ensures { λ r. ⌜ (r ≡ x) × (r < 2 ^ 32) ⌝ }
+    ensures { λ r. ⌜ (r ≡ x) × (r < weightLimit) ⌝ }
 {
     x as u64
 }
 
 // What the columns of a set are worth together.
-pub fn value(prices: &[u32; 64], set: u64) -> u64
-    ensures { λ r. ⌜ Valued (now (prices .entry)) set r ⌝ }
+pub fn worth(prices: &Prices, set: columns::Set) -> u64
+    ensures { λ r. ⌜ Valued (now (prices .entry)) (has set) r ⌝ }
 {
     let mut total: u64 = 0;
     let mut c = columns::next(set, 0);
-    while c < 64 {
+    while c < columns::LIMIT {
         total += wide(prices[c]);
         c = columns::next(set, c + 1);
     }
     total
 }
 
+// What the undecided columns of the row i are worth together.
+pub fn row_worth(words: &[u64], undecided: columns::Set, prices: &Prices, i: usize) -> u64
+    requires { ⌜ i < rowCount (now words) ⌝ }
+    ensures { λ r. ⌜ Valued (now (prices .entry)) (rowColumns (now (words .entry)) undecided i) r ⌝ }
+{
+    worth(prices, columns::both(matrix::covered(words, i), undecided))
+}
+
 // Whether the undecided columns of the row i are worth no more than it weighs.
-fn pays(words: &[u64], weights: &[u32], undecided: u64, prices: &[u32; 64], i: usize) -> bool
-    requires { ⌜ Sizes (now words) (now weights) × (i < length (now words)) ⌝ }
+fn pays(words: &[u64], weights: &[u32], undecided: columns::Set, prices: &Prices, i: usize) -> bool
+    requires { ⌜ Sizes (now words) (now weights) × (i < rowCount (now words)) ⌝ }
     ensures { λ r. ⌜ (r ≡ true → Pays (now (words .entry)) (now (weights .entry)) undecided (now (prices .entry)) i) ⌝ }
 {
-    value(prices, columns::both(words[i], undecided)) <= matrix::weight(weights, i)
+    row_worth(words, undecided, prices, i) <= matrix::weight(weights, i)
 }
 
 // Whether each live row pays.
 fn feasible(
     words: &[u64],
     weights: &[u32],
-    live: &[u64; 12],
-    undecided: u64,
-    prices: &[u32; 64],
+    live: &rows::Set,
+    undecided: columns::Set,
+    prices: &Prices,
 ) -> bool
     requires { ⌜ Sizes (now words) (now weights) ⌝ }
     ensures { λ r. ⌜ (r ≡ true → Feasible (now (words .entry)) (now (weights .entry)) (now (live .entry)) undecided (now (prices .entry))) ⌝ }
 {
-    let mut i = rows::next(live, 0, words.len());
-    while i < words.len() {
+    let end = matrix::row_count(words);
+    let mut i = rows::next(live, 0, end);
+    while i < end {
         if !pays(words, weights, undecided, prices, i) {
             return false;
         }
-        i = rows::next(live, i + 1, words.len());
+        i = rows::next(live, i + 1, end);
     }
     true
 }
@@ -69,39 +83,28 @@ pub struct Range {
     pub most: u64,
 }
 
-fn smaller(a: u64, b: u64) -> u64
-    ensures { λ r. ⌜ r ≡ min a b ⌝ }
-{
-    if a < b { a } else { b }
-}
-
-fn larger(a: u64, b: u64) -> u64
-    ensures { λ r. ⌜ r ≡ max a b ⌝ }
-{
-    if a < b { b } else { a }
-}
-
 // The range of the live rows' weights.
-fn weight_range(words: &[u64], weights: &[u32], live: &[u64; 12]) -> Range
+fn weight_range(words: &[u64], weights: &[u32], live: &rows::Set) -> Range
     requires { ⌜ Sizes (now words) (now weights) ⌝ }
-    ensures { λ r. ⌜ Ranges (now (weights .entry)) (now (live .entry)) (length (now (words .entry))) (r .least) (r .most) ⌝ }
+    ensures { λ r. ⌜ Ranges (now (weights .entry)) (now (live .entry)) (rowCount (now (words .entry))) (r .least) (r .most) ⌝ }
 {
     let mut least = u32::MAX as u64;
     let mut most: u64 = 1;
-    let mut i = rows::next(live, 0, words.len());
-    while i < words.len() {
+    let end = matrix::row_count(words);
+    let mut i = rows::next(live, 0, end);
+    while i < end {
         let weight = matrix::weight(weights, i);
-        least = smaller(least, weight);
-        most = larger(most, weight);
-        i = rows::next(live, i + 1, words.len());
+        least = matrix::smaller(least, weight);
+        most = matrix::larger(most, weight);
+        i = rows::next(live, i + 1, end);
     }
     Range { least, most }
 }
 
-// A bound rounded up in rows: at least so many rows, each of the least weight.
-fn rounded(words: &[u64], weights: &[u32], live: &[u64; 12], low: u64) -> u64
-    requires { ⌜ Sizes (now words) (now weights) × (low ≤ 64 * 2 ^ 32) ⌝ }
-    ensures { λ r. ⌜ ((u : ℕ) → Low (now (words .entry)) (now (weights .entry)) (now (live .entry)) u low → Low (now (words .entry)) (now (weights .entry)) (now (live .entry)) u r) ⌝ }
+// A bound rounded up in rows: at least this many rows are needed, each of at least the least weight.
+fn rounded(words: &[u64], weights: &[u32], live: &rows::Set, low: u64) -> u64
+    requires { ⌜ Sizes (now words) (now weights) × (low ≤ worthLimit) ⌝ }
+    ensures { λ r. ⌜ Rounded (now (words .entry)) (now (weights .entry)) (now (live .entry)) low r ⌝ }
 {
     let weight = weight_range(words, weights, live);
     let least = weight.least;
@@ -120,17 +123,17 @@ fn rounded(words: &[u64], weights: &[u32], live: &[u64; 12], low: u64) -> u64
 fn fix_row(
     words: &[u64],
     weights: &[u32],
-    live: [u64; 12],
-    undecided: u64,
+    live: rows::Set,
+    undecided: columns::Set,
     limit: u64,
-    prices: &[u32; 64],
+    prices: &Prices,
     total: u64,
     i: usize,
-) -> [u64; 12]
-    requires { ⌜ Sizes (now words) (now weights) × (i < length (now words)) × (limit < 2 ^ 48) × Valued (now prices) undecided total × Feasible (now words) (now weights) live undecided (now prices) ⌝ }
+) -> rows::Set
+    requires { ⌜ Certificate (now words) (now weights) live undecided limit (now prices) total × (i < rowCount (now words)) ⌝ }
     ensures { λ r. ⌜ Kept (now (words .entry)) (now (weights .entry)) live undecided limit r ⌝ }
 {
-    let paid = value(prices, columns::both(words[i], undecided));
+    let paid = row_worth(words, undecided, prices, i);
     if limit + paid <= matrix::weight(weights, i) + total {
         return rows::without_row(live, i);
     }
@@ -141,45 +144,62 @@ fn fix_row(
 fn fix_rows(
     words: &[u64],
     weights: &[u32],
-    live: [u64; 12],
-    undecided: u64,
+    live: rows::Set,
+    undecided: columns::Set,
     limit: u64,
-    prices: &[u32; 64],
+    prices: &Prices,
     total: u64,
-) -> [u64; 12]
-    requires { ⌜ Sizes (now words) (now weights) × (limit < 2 ^ 48) × Valued (now prices) undecided total × Feasible (now words) (now weights) live undecided (now prices) ⌝ }
+) -> rows::Set
+    requires { ⌜ Certificate (now words) (now weights) live undecided limit (now prices) total ⌝ }
     ensures { λ r. ⌜ Kept (now (words .entry)) (now (weights .entry)) live undecided limit r ⌝ }
 {
     let mut kept = live;
-    let mut i = rows::next(&kept, 0, words.len());
-    while i < words.len() {
+    let end = matrix::row_count(words);
+    let mut i = rows::next(&kept, 0, end);
+    while i < end {
         let rest = fix_row(words, weights, kept, undecided, limit, prices, total, i);
         kept = rest;
-        i = rows::next(&kept, i + 1, words.len());
+        i = rows::next(&kept, i + 1, end);
     }
     kept
 }
 
-// What prices for the columns show: nothing, unless they are a certificate.
-pub fn certified(
+// What a certificate shows: its total rounded up in rows, and the live rows without those that are in no cover below the limit.
+fn shown(
     words: &[u64],
     weights: &[u32],
-    live: [u64; 12],
-    undecided: u64,
+    live: rows::Set,
+    undecided: columns::Set,
     limit: u64,
-    prices: &[u32; 64],
+    prices: &Prices,
+    total: u64,
 ) -> Bounded
-    requires { ⌜ Sizes (now words) (now weights) × (limit < 2 ^ 48) ⌝ }
+    requires { ⌜ Certificate (now words) (now weights) live undecided limit (now prices) total ⌝ }
     ensures { λ r. ⌜ Bounds (now (words .entry)) (now (weights .entry)) live undecided limit (r .low) (r .live) ⌝ }
 {
-    if !feasible(words, weights, &live, undecided, prices) {
-        return Bounded { low: 0, live };
-    }
-    let total = value(prices, undecided);
     let low = rounded(words, weights, &live, total);
     if limit <= low {
         return Bounded { low, live };
     }
     let kept = fix_rows(words, weights, live, undecided, limit, prices, total);
     Bounded { low, live: kept }
+}
+
+// What prices for the columns show: nothing, unless they are a certificate.
+pub fn certified(
+    words: &[u64],
+    weights: &[u32],
+    live: rows::Set,
+    undecided: columns::Set,
+    limit: u64,
+    prices: &Prices,
+) -> Bounded
+    requires { ⌜ Limited (now words) (now weights) limit ⌝ }
+    ensures { λ r. ⌜ Bounds (now (words .entry)) (now (weights .entry)) live undecided limit (r .low) (r .live) ⌝ }
+{
+    if !feasible(words, weights, &live, undecided, prices) {
+        return Bounded { low: 0, live };
+    }
+    let total = worth(prices, undecided);
+    shown(words, weights, live, undecided, limit, prices, total)
 }

@@ -1,25 +1,34 @@
 // Dual ascent: prices for the columns, as high as the rows' weights allow. A heuristic: nothing is promised of the prices, since the certificate is
 // checked. A row's slack is its weight less the prices of its undecided columns. Prices and slacks are added and subtracted modulo 2 ^ 32.
 ghost use Prim.Native.Nat.{_≤_, _<_};
-ghost use lib.ListN.{length};
-ghost use Rattle.matrix.specs.Matrix.{Sizes};
+ghost use Rattle.matrix.specs.Sets.{columnLimit, rowLimit};
+ghost use Rattle.matrix.specs.Matrix.{rowCount, Sizes};
+ghost use Rattle.bound.specs.Steps.{levelCount};
 use crate::certificate;
+use crate::certificate::Prices;
 use matrix::columns;
 use matrix::rows;
 use matrix::transposed;
 
-fn smaller(a: u32, b: u32) -> u32 {
+// A slack for each row.
+type Slacks = [u32; rows::LIMIT];
+
+// The levels of columns, which are raised one after the other.
+const LEVELS: usize = 16;
+
+// The lower of two prices, or of two slacks.
+fn lower(a: u32, b: u32) -> u32 {
     if b < a { b } else { a }
 }
 
 // The least slack of the rows of a set below `end`.
-fn least_slack(slack: &[u32; 768], set: &[u64; 12], end: usize) -> u32
-    requires { ⌜ end ≤ 768 ⌝ }
+fn least_slack(slack: &Slacks, set: &rows::Set, end: usize) -> u32
+    requires { ⌜ end ≤ rowLimit ⌝ }
 {
     let mut least = u32::MAX;
     let mut i = rows::next(set, 0, end);
     while i < end {
-        least = smaller(least, slack[i]);
+        least = lower(least, slack[i]);
         if least == 0 {
             return 0;
         }
@@ -29,8 +38,8 @@ fn least_slack(slack: &[u32; 768], set: &[u64; 12], end: usize) -> u32
 }
 
 // An amount added to the slack of the rows of a set below `end`.
-fn add(slack: &mut [u32; 768], set: &[u64; 12], end: usize, amount: u32)
-    requires { ⌜ end ≤ 768 ⌝ }
+fn add(slack: &mut Slacks, set: &rows::Set, end: usize, amount: u32)
+    requires { ⌜ end ≤ rowLimit ⌝ }
 {
     let mut i = rows::next(set, 0, end);
     while i < end {
@@ -41,14 +50,14 @@ fn add(slack: &mut [u32; 768], set: &[u64; 12], end: usize, amount: u32)
 
 // A new price for the column c, and the slack of its rows changed with it.
 fn set_price(
-    by_column: &[[u64; 12]; 64],
-    prices: &mut [u32; 64],
-    slack: &mut [u32; 768],
+    by_column: &transposed::ByColumn,
+    prices: &mut Prices,
+    slack: &mut Slacks,
     end: usize,
     c: usize,
     price: u32,
 )
-    requires { ⌜ (end ≤ 768) × (c < 64) ⌝ }
+    requires { ⌜ (end ≤ rowLimit) × (c < columnLimit) ⌝ }
 {
     let amount = std::num::wrapping_sub_u32(prices[c], price);
     if amount == 0 {
@@ -60,13 +69,13 @@ fn set_price(
 
 // The price of the column c raised by the least slack of its rows.
 fn raise(
-    by_column: &[[u64; 12]; 64],
-    prices: &mut [u32; 64],
-    slack: &mut [u32; 768],
+    by_column: &transposed::ByColumn,
+    prices: &mut Prices,
+    slack: &mut Slacks,
     end: usize,
     c: usize,
 )
-    requires { ⌜ (end ≤ 768) × (c < 64) ⌝ }
+    requires { ⌜ (end ≤ rowLimit) × (c < columnLimit) ⌝ }
 {
     let amount = least_slack(slack, &by_column[c], end);
     let price = std::num::wrapping_add_u32(prices[c], amount);
@@ -75,54 +84,59 @@ fn raise(
 
 // The prices of the columns of a set raised.
 fn raise_all(
-    by_column: &[[u64; 12]; 64],
-    prices: &mut [u32; 64],
-    slack: &mut [u32; 768],
+    by_column: &transposed::ByColumn,
+    prices: &mut Prices,
+    slack: &mut Slacks,
     end: usize,
-    set: u64,
+    set: columns::Set,
 )
-    requires { ⌜ end ≤ 768 ⌝ }
+    requires { ⌜ end ≤ rowLimit ⌝ }
 {
     let mut c = columns::next(set, 0);
-    while c < 64 {
+    while c < columns::LIMIT {
         raise(by_column, prices, slack, end, c);
         c = columns::next(set, c + 1);
     }
 }
 
-// The undecided columns by the number of their rows, up to 15.
-fn by_rows(by_column: &[[u64; 12]; 64], end: usize, undecided: u64) -> [u64; 16]
-    requires { ⌜ end ≤ 768 ⌝ }
+// The undecided columns by the number of their rows: a level for each number, and the last for all higher ones.
+fn by_rows(
+    by_column: &transposed::ByColumn,
+    end: usize,
+    undecided: columns::Set,
+) -> [columns::Set; LEVELS]
+    requires { ⌜ end ≤ rowLimit ⌝ }
 {
-    let mut levels = [0u64; 16];
+    let mut levels = [columns::NONE; LEVELS];
     let mut c = columns::next(undecided, 0);
-    while c < 64 {
-        let level = at_most_15(rows::size(&by_column[c], end));
+    while c < columns::LIMIT {
+        let level = level_of(rows::size(&by_column[c], end));
         levels[level] = columns::either(levels[level], columns::only(c));
         c = columns::next(undecided, c + 1);
     }
     levels
 }
 
-fn at_most_15(n: usize) -> usize
-    ensures { λ r. ⌜ r < 16 ⌝ }
+// The level of a column with n rows.
+fn level_of(n: usize) -> usize
+    ensures { λ r. ⌜ r < levelCount ⌝ }
 {
-    if n < 15 { n } else { 15 }
+    if n < LEVELS - 1 { n } else { LEVELS - 1 }
 }
 
 // The prices of the undecided columns raised, those with few rows first.
 fn ascend(
-    by_column: &[[u64; 12]; 64],
-    prices: &mut [u32; 64],
-    slack: &mut [u32; 768],
+    by_column: &transposed::ByColumn,
+    prices: &mut Prices,
+    slack: &mut Slacks,
     end: usize,
-    undecided: u64,
+    undecided: columns::Set,
 )
-    requires { ⌜ end ≤ 768 ⌝ }
+    requires { ⌜ end ≤ rowLimit ⌝ }
 {
     let levels = by_rows(by_column, end, undecided);
     let mut level: usize = 0;
-    while level < 16 {
+    while level < LEVELS {
         raise_all(by_column, prices, slack, end, levels[level]);
         level += 1;
     }
@@ -130,31 +144,32 @@ fn ascend(
 
 // The prices of the columns of a set put back to what they were.
 fn restore(
-    by_column: &[[u64; 12]; 64],
-    prices: &mut [u32; 64],
-    slack: &mut [u32; 768],
+    by_column: &transposed::ByColumn,
+    prices: &mut Prices,
+    slack: &mut Slacks,
     end: usize,
-    set: u64,
-    saved: &[u32; 64],
+    set: columns::Set,
+    saved: &Prices,
 )
-    requires { ⌜ end ≤ 768 ⌝ }
+    requires { ⌜ end ≤ rowLimit ⌝ }
 {
     let mut c = columns::next(set, 0);
-    while c < 64 {
+    while c < columns::LIMIT {
         set_price(by_column, prices, slack, end, c, saved[c]);
         c = columns::next(set, c + 1);
     }
 }
 
 // The columns of the rows of a set.
-fn columns_of(words: &[u64], set: &[u64; 12]) -> u64
-    requires { ⌜ length (now words) ≤ 768 ⌝ }
+fn columns_of_rows(words: &[u64], set: &rows::Set) -> columns::Set
+    requires { ⌜ rowCount (now words) ≤ rowLimit ⌝ }
 {
-    let mut found: u64 = 0;
-    let mut i = rows::next(set, 0, words.len());
-    while i < words.len() {
-        found = columns::either(found, words[i]);
-        i = rows::next(set, i + 1, words.len());
+    let mut found = columns::NONE;
+    let end = matrix::row_count(words);
+    let mut i = rows::next(set, 0, end);
+    while i < end {
+        found = columns::either(found, matrix::covered(words, i));
+        i = rows::next(set, i + 1, end);
     }
     found
 }
@@ -163,60 +178,61 @@ fn columns_of(words: &[u64], set: &[u64; 12]) -> u64
 // worth now.
 fn retry(
     words: &[u64],
-    by_column: &[[u64; 12]; 64],
-    prices: &mut [u32; 64],
-    slack: &mut [u32; 768],
-    undecided: u64,
+    by_column: &transposed::ByColumn,
+    prices: &mut Prices,
+    slack: &mut Slacks,
+    undecided: columns::Set,
     worth: u64,
     c: usize,
 ) -> u64
-    requires { ⌜ (length (now words) ≤ 768) × (c < 64) ⌝ }
+    requires { ⌜ (rowCount (now words) ≤ rowLimit) × (c < columnLimit) ⌝ }
 {
     let saved = *prices;
     if saved[c] == 0 {
         return worth;
     }
-    let near = columns::both(columns_of(words, &by_column[c]), undecided);
-    set_price(by_column, prices, slack, words.len(), c, 0);
+    let end = matrix::row_count(words);
+    let near = columns::both(columns_of_rows(words, &by_column[c]), undecided);
+    set_price(by_column, prices, slack, end, c, 0);
     raise_all(
         by_column,
         prices,
         slack,
-        words.len(),
+        end,
         columns::without(near, columns::only(c)),
     );
-    raise(by_column, prices, slack, words.len(), c);
-    let changed = certificate::value(prices, undecided);
+    raise(by_column, prices, slack, end, c);
+    let changed = certificate::worth(prices, undecided);
     if worth <= changed {
         return changed;
     }
-    restore(by_column, prices, slack, words.len(), near, &saved);
+    restore(by_column, prices, slack, end, near, &saved);
     worth
 }
 
 // Each undecided column retried.
 fn improve(
     words: &[u64],
-    by_column: &[[u64; 12]; 64],
-    prices: &mut [u32; 64],
-    slack: &mut [u32; 768],
-    undecided: u64,
+    by_column: &transposed::ByColumn,
+    prices: &mut Prices,
+    slack: &mut Slacks,
+    undecided: columns::Set,
 )
-    requires { ⌜ length (now words) ≤ 768 ⌝ }
+    requires { ⌜ rowCount (now words) ≤ rowLimit ⌝ }
 {
-    let mut worth = certificate::value(prices, undecided);
+    let mut worth = certificate::worth(prices, undecided);
     let mut c = columns::next(undecided, 0);
-    while c < 64 {
+    while c < columns::LIMIT {
         worth = retry(words, by_column, prices, slack, undecided, worth, c);
         c = columns::next(undecided, c + 1);
     }
 }
 
 // The prices of the columns of a set cut down to a share.
-fn cap(prices: &mut [u32; 64], set: u64, share: u32) {
+fn cap(prices: &mut Prices, set: columns::Set, share: u32) {
     let mut c = columns::next(set, 0);
-    while c < 64 {
-        prices[c] = smaller(prices[c], share);
+    while c < columns::LIMIT {
+        prices[c] = lower(prices[c], share);
         c = columns::next(set, c + 1);
     }
 }
@@ -227,21 +243,22 @@ fn fair(weight: u32, n: u32) -> u32 {
 }
 
 // Each undecided column at the least fair share of its rows.
-fn shares(words: &[u64], weights: &[u32], live: &[u64; 12], undecided: u64) -> [u32; 64]
+fn shares(words: &[u64], weights: &[u32], live: &rows::Set, undecided: columns::Set) -> Prices
     requires { ⌜ Sizes (now words) (now weights) ⌝ }
 {
-    let mut prices = [u32::MAX; 64];
-    let mut i = rows::next(live, 0, words.len());
-    while i < words.len() {
-        let set = columns::both(words[i], undecided);
+    let mut prices = [u32::MAX; columns::LIMIT];
+    let end = matrix::row_count(words);
+    let mut i = rows::next(live, 0, end);
+    while i < end {
+        let set = columns::both(matrix::covered(words, i), undecided);
         cap(&mut prices, set, fair(weights[i], columns::size(set)));
-        i = rows::next(live, i + 1, words.len());
+        i = rows::next(live, i + 1, end);
     }
     prices
 }
 
-// What is left of a weight.
-fn room(weight: u32, paid: u64) -> u32 {
+// The slack of a row that weighs `weight` and pays `paid` for its undecided columns.
+fn slack_of(weight: u32, paid: u64) -> u32 {
     if paid < weight as u64 {
         (weight as u64 - paid) as u32
     } else {
@@ -253,18 +270,19 @@ fn room(weight: u32, paid: u64) -> u32 {
 fn slacks(
     words: &[u64],
     weights: &[u32],
-    live: &[u64; 12],
-    undecided: u64,
-    prices: &[u32; 64],
-) -> [u32; 768]
+    live: &rows::Set,
+    undecided: columns::Set,
+    prices: &Prices,
+) -> Slacks
     requires { ⌜ Sizes (now words) (now weights) ⌝ }
 {
-    let mut slack = [0u32; 768];
-    let mut i = rows::next(live, 0, words.len());
-    while i < words.len() {
-        let paid = certificate::value(prices, columns::both(words[i], undecided));
-        slack[i] = room(weights[i], paid);
-        i = rows::next(live, i + 1, words.len());
+    let mut slack = [0u32; rows::LIMIT];
+    let end = matrix::row_count(words);
+    let mut i = rows::next(live, 0, end);
+    while i < end {
+        let paid = certificate::row_worth(words, undecided, prices, i);
+        slack[i] = slack_of(weights[i], paid);
+        i = rows::next(live, i + 1, end);
     }
     slack
 }
@@ -273,29 +291,45 @@ fn slacks(
 fn ascent(
     words: &[u64],
     weights: &[u32],
-    live: &[u64; 12],
-    undecided: u64,
-    start: [u32; 64],
-) -> [u32; 64]
+    live: &rows::Set,
+    undecided: columns::Set,
+    start: Prices,
+) -> Prices
     requires { ⌜ Sizes (now words) (now weights) ⌝ }
 {
     let by_column = transposed::fill(words, live, undecided);
     let mut slack = slacks(words, weights, live, undecided, &start);
     let mut prices = start;
-    ascend(&by_column, &mut prices, &mut slack, words.len(), undecided);
+    ascend(
+        &by_column,
+        &mut prices,
+        &mut slack,
+        matrix::row_count(words),
+        undecided,
+    );
     improve(words, &by_column, &mut prices, &mut slack, undecided);
     prices
 }
 
 // Prices by an ascent from zero.
-pub fn from_zero(words: &[u64], weights: &[u32], live: &[u64; 12], undecided: u64) -> [u32; 64]
+pub fn from_zero(
+    words: &[u64],
+    weights: &[u32],
+    live: &rows::Set,
+    undecided: columns::Set,
+) -> Prices
     requires { ⌜ Sizes (now words) (now weights) ⌝ }
 {
-    ascent(words, weights, live, undecided, [0u32; 64])
+    ascent(words, weights, live, undecided, [0u32; columns::LIMIT])
 }
 
 // Prices by an ascent from each column's fair share of its rows.
-pub fn from_shares(words: &[u64], weights: &[u32], live: &[u64; 12], undecided: u64) -> [u32; 64]
+pub fn from_shares(
+    words: &[u64],
+    weights: &[u32],
+    live: &rows::Set,
+    undecided: columns::Set,
+) -> Prices
     requires { ⌜ Sizes (now words) (now weights) ⌝ }
 {
     let start = shares(words, weights, live, undecided);

@@ -3,9 +3,9 @@
 //
 // Three columns and three rows of weight 2, each with two of the columns: the price 1 for each column is a certificate for 3, and 3 asks for two rows, so
 // every cover weighs at least 4.
-ghost use Prim.Native.Nat.{_^_, _<_};
-ghost use Rattle.matrix.specs.Matrix.{Sizes};
-ghost use Rattle.bound.specs.Bound.{Bounds};
+ghost use Rattle.bound.specs.Bound.{Limited, Bounds};
+use matrix::columns;
+use matrix::rows;
 
 pub mod certificate;
 pub mod dual;
@@ -14,11 +14,11 @@ pub mod dual;
 pub fn tighten(
     words: &[u64],
     weights: &[u32],
-    live: [u64; 12],
-    undecided: u64,
+    live: rows::Set,
+    undecided: columns::Set,
     limit: u64,
 ) -> certificate::Bounded
-    requires { ⌜ Sizes (now words) (now weights) × (limit < 2 ^ 48) ⌝ }
+    requires { ⌜ Limited (now words) (now weights) limit ⌝ }
     ensures { λ r. ⌜ Bounds (now (words .entry)) (now (weights .entry)) live undecided limit (r .low) (r .live) ⌝ }
 {
     let ascent = dual::from_zero(words, weights, &live, undecided);

@@ -7,17 +7,9 @@ ghost use mathlib.Core.Path.{_≡_};
 ghost use Prim.Native.Nat.{_+_, _<_, _≤_, _^_};
 ghost use lib.ListN.{length};
 ghost use lib.Seq.{sets};
-ghost use Rattle.cube.specs.Words.{digit as digitAt, codesOf};
+ghost use Rattle.cube.specs.Words.{codesOf};
 ghost use Rattle.cube.specs.Calls.{widest, Listed};
 ghost use Rattle.cells.specs.Cells.{cellsRefuses, FirstUntested, Splits};
-
-// Digit k of a cube, counted from the last.
-pub fn digit(q: usize, k: usize) -> usize
-    requires { ⌜ k ≤ widest ⌝ }
-    ensures { λ r. ⌜ r ≡ digitAt k q ⌝ }
-{
-    q / spelling::cubes(k) % 3
-}
 
 // One more than the place of the first untested digit, or 0 where every digit is tested.
 fn first_untested(n: usize, q: usize) -> usize
@@ -26,7 +18,7 @@ fn first_untested(n: usize, q: usize) -> usize
 {
     let mut k = n;
     while 0 < k {
-        if digit(q, k - 1) == 2 {
+        if spelling::digit(q, k - 1) == 2 {
             return k;
         }
         k -= 1;

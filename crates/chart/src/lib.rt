@@ -1,128 +1,92 @@
-// The chart: a row for each prime, a column for each wanted code.
+// Chart: a lent list of rows, one per prime. The core on parallel arrays, `chart_arrays::build`, finds what stands in them; here
+// they are copied into the lent rows.
 //
-//     chart::columns(2, &[1, 0, 2, 1], 2)     // cube 02 matches 0 and 1, of which 0 is wanted: the word 1
+//     let mut rows = [ChartRow { cube: 0, word: 0, literals: 0 }; 9];
+//     chart::chart(2, &[1, 0, 0, 2], &mut rows)   // count 2: cube 0 (00) with the word 1, cube 4 (11) with the word 0
+use chart_arrays::Arrays;
+use cube::Counted;
 use spelling::MOST_CUBES;
 ghost use mathlib.Core.Path.{_≡_};
-ghost use Prim.Native.Nat.{ℕ, _+_, _*_, _<_, _≤_, _^_};
-ghost use lib.ListN.{length, getD};
-ghost use Rattle.numbers.specs.Below.{flag};
-ghost use Rattle.cube.specs.Calls.{widest};
-ghost use Rattle.cube.specs.Words.{tested, digit, cubeLiterals};
-ghost use Rattle.chart.specs.Columns.{wordOf, columnsOf, rowColumn};
-ghost use Rattle.chart.specs.Chart.{IsChart, Cubes};
+ghost use mathlib.Core.List.{_++_};
+ghost use Prim.Native.Nat.{_<_, _≤_};
+ghost use lib.ListN.{length, drop};
+ghost use Rattle.cube.specs.Calls.{answered, countAnswer};
+ghost use Rattle.chart.specs.Rows.{Charted, Prepares, rowAt, arrayRows};
 
-// The word with bit c, if code c is wanted and the row matches it.
-fn with_code(table: &[u8], value: usize, care: usize, c: usize, word: u64) -> u64
-    requires { ⌜ (c < length (now table)) × (c < 64) × (word < 2 ^ c) ⌝ }
-    ensures { λ r. ⌜ r ≡ word + flag (rowColumn (now (table .entry)) value care c) * 2 ^ c ⌝ }
-{
-    if table[c] != 1 {
-        return word;
-    }
-    if c & care != value {
-        return word;
-    }
-    word + (1u64 << c)
+// A chart row: cube number, code word, tested bits.
+pub struct ChartRow {
+    pub cube: u16,
+    pub word: u64,
+    pub literals: u8,
 }
 
-// The wanted codes that a row matches: all of them for value 0 and care 0.
-pub fn row_columns(table: &[u8], value: usize, care: usize) -> u64
-    requires { ⌜ length (now table) ≤ 64 ⌝ }
-    ensures { λ r. ⌜ r ≡ wordOf (length (now (table .entry))) (rowColumn (now (table .entry)) value care) ⌝ }
+// The row at place i of the parallel arrays.
+fn row_at(chart: Arrays, i: usize) -> ChartRow
+    requires { ⌜ i < 729 ⌝ }
+    ensures { λ r. ⌜ r ≡ rowAt chart i ⌝ }
 {
-    let mut word = 0u64;
-    let mut c = 0;
-    while c < table.len() {
-        word = with_code(table, value, care, c, word);
-        c += 1;
+    ChartRow {
+        cube: chart.cubes[i],
+        word: chart.words[i],
+        literals: chart.literals[i],
     }
-    word
 }
 
-// The wanted codes that cube q matches.
-pub fn columns(n: usize, table: &[u8], q: usize) -> u64
-    requires { ⌜ (n ≤ widest) × (length (now table) ≡ 2 ^ n) × (q < 3 ^ n) ⌝ }
-    ensures { λ r. ⌜ r ≡ columnsOf n (now (table .entry)) q ⌝ }
-{
-    row_columns(
-        table,
-        spelling::value(n, q) as usize,
-        spelling::care(n, q) as usize,
-    )
-}
-
-// One more if digit k of q is tested.
-fn with_digit(q: usize, k: usize, count: u8) -> u8
-    requires { ⌜ (k < widest) × (count ≤ k) ⌝ }
-    ensures { λ r. ⌜ r ≡ count + flag (tested (digit k q)) ⌝ }
-{
-    if cells::digit(q, k) == 2 {
-        return count;
-    }
-    count + 1
-}
-
-// The tested bits of a cube.
-fn literals(n: usize, q: usize) -> u8
-    requires { ⌜ n ≤ widest ⌝ }
-    ensures { λ r. ⌜ r ≡ cubeLiterals n q ⌝ }
-{
-    let mut count = 0u8;
-    let mut k = 0;
-    while k < n {
-        count = with_digit(q, k, count);
-        k += 1;
-    }
-    count
-}
-
-// The words of the first cubes.
-fn fill_words(n: usize, table: &[u8], cubes: &[u16], count: usize, words: &mut [u64])
-    requires { ⌜ (n ≤ widest) × (length (now table) ≡ 2 ^ n) × (count ≤ length (now cubes)) × (count ≤ length (now words)) × Cubes n (now cubes) count ⌝ }
-    ensures { λ _. ⌜ ((i : ℕ) → i < count → getD (now (words .exit)) i 0 ≡ columnsOf n (now (table .entry)) (getD (now (cubes .entry)) i 0)) ⌝ }
+// Copies the chart into the first of the lent rows.
+fn fill(rows: &mut [ChartRow], chart: Arrays)
+    requires { ⌜ (chart .rows ≤ length (now rows)) × (chart .rows ≤ 729) ⌝ }
+    ensures { λ _. ⌜ now (rows .exit) ≡ arrayRows chart ++ drop (chart .rows) (now (rows .entry)) ⌝ }
 {
     let mut i = 0;
-    while i < count {
-        words[i] = columns(n, table, cubes[i] as usize);
+    while i < chart.rows {
+        rows[i] = row_at(chart, i);
         i += 1;
     }
 }
 
-// The tested bits of the first cubes, place by place.
-fn fill_literals(n: usize, cubes: &[u16], count: usize, into: &mut [u8])
-    requires { ⌜ (n ≤ widest) × (count ≤ length (now cubes)) × (count ≤ length (now into)) ⌝ }
-    ensures { λ _. ⌜ ((i : ℕ) → i < count → getD (now (into .exit)) i 0 ≡ cubeLiterals n (getD (now (cubes .entry)) i 0)) ⌝ }
+// What is to be answered and written: the refusal, or 0, and the chart, which has no row where it is refused.
+struct Prepared {
+    refusal: u8,
+    chart: Arrays,
+}
+
+// The refusal for so many lent rows, and the chart to copy.
+fn prepare(n: usize, table: &[u8], places: usize) -> Prepared
+    ensures { λ r. ⌜ Prepares n (now (table .entry)) places r ⌝ }
 {
-    let mut i = 0;
-    while i < count {
-        into[i] = literals(n, cubes[i] as usize);
-        i += 1;
+    let k = primes::listing_refusal(n, table, places);
+    if k != 0 {
+        return Prepared {
+            refusal: k,
+            chart: Arrays {
+                rows: 0,
+                cubes: [0; MOST_CUBES],
+                words: [0; MOST_CUBES],
+                literals: [0; MOST_CUBES],
+            },
+        };
+    }
+    Prepared {
+        refusal: 0,
+        chart: chart_arrays::build(n, table),
     }
 }
 
-// The chart on parallel arrays: how many rows there are, and place i of each array for the prime at place i.
-pub struct Arrays {
-    pub rows: usize,
-    pub cubes: [u16; MOST_CUBES],
-    pub words: [u64; MOST_CUBES],
-    pub literals: [u8; MOST_CUBES],
+// The refusal, or how many rows there are.
+fn answer(prepared: Prepared) -> Counted
+    ensures { λ r. ⌜ countAnswer r ≡ answered (prepared .refusal) (prepared .chart .rows) ⌝ }
+{
+    if prepared.refusal != 0 {
+        return Counted::Refused(prepared.refusal);
+    }
+    Counted::Count(prepared.chart.rows)
 }
 
-// The chart of a table of n variables.
-pub fn build(n: usize, table: &[u8]) -> Arrays
-    requires { ⌜ (n ≤ widest) × (length (now table) ≡ 2 ^ n) ⌝ }
-    ensures { λ r. ⌜ IsChart n (now (table .entry)) r ⌝ }
+// The chart of a table into the first of the lent rows, one per prime: how many there are, or the number of the refusal.
+pub fn chart(n: usize, table: &[u8], rows: &mut [ChartRow]) -> Counted
+    ensures { λ r. ⌜ Charted n (now (table .entry)) (now (rows .entry)) (now (rows .exit)) r ⌝ }
 {
-    let mut cubes = [0u16; MOST_CUBES];
-    let rows = primes::list_primes(n, table, &mut cubes);
-    let mut words = [0u64; MOST_CUBES];
-    fill_words(n, table, &cubes, rows, &mut words);
-    let mut literals = [0u8; MOST_CUBES];
-    fill_literals(n, &cubes, rows, &mut literals);
-    Arrays {
-        rows,
-        cubes,
-        words,
-        literals,
-    }
+    let prepared = prepare(n, table, rows.len());
+    fill(rows, prepared.chart);
+    answer(prepared)
 }

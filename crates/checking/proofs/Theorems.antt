@@ -8,8 +8,8 @@ use native.Mathlib.Omega.{arith}
 use lib.Dec.{T, eqb→eq}
 use Rattle.cube.specs.Words.{cell, onSet, offSet, Cover, coverMatches, implements, rowsOf}
 use Rattle.cube.specs.Calls.{gives, answered}
-use Rattle.cube.proofs.Bools.{and-l, and-r, and-i, or-e, or-l, or-r, not-e, not-i, is-true, is-false, holds}
-use Rattle.cube.proofs.Below.{Lowest, lowest-or-none}
+use Rattle.numbers.proofs.Bools.{and-l, and-r, and-i, or-e, or-l, or-r, not-e, not-i, is-true, is-false, holds}
+use Rattle.numbers.proofs.Below.{Lowest, lowest-or-none}
 use Rattle.cube.proofs.Calls.{same-value}
 use Rattle.cube.proofs.Theorems.{implements-on, implements-off, implements-by}
 use Rattle.checking.specs.Check.{checkRefuses, Verdict, right, missed, stray, isMissed, isStray, isWrong, verdict, checkOf}

@@ -5,7 +5,7 @@ use mathlib.Core.List.{List}
 use Prim.Native.Nat.{ℕ, _^_, _<_}
 use lib.Dec.{T}
 use Rattle.cube.specs.Words.{Cover}
-use Rattle.cube.proofs.Below.{those-none, Lowest, those-lowest}
+use Rattle.numbers.proofs.Below.{those-none, Lowest, those-lowest}
 use Rattle.checking.specs.Check.{right, missed, stray, isMissed, isWrong, named, verdict}
 
 module _ (n : ℕ) (t : List ℕ) (rs : Cover) where

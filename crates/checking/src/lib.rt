@@ -68,7 +68,7 @@ fn compare(n: usize, table: &[u8], values: &[u8], cares: &[u8]) -> Checked
 pub fn check(n: usize, table: &[u8], values: &[u8], cares: &[u8]) -> Checked
     ensures { λ r. ⌜ checkAnswer r ≡ checkOf n (now (table .entry)) (now (values .entry)) (now (cares .entry)) ⌝ }
 {
-    let k = primes::table_refusal(n, table);
+    let k = tables::table_refusal(n, table);
     if k != 0 {
         return Checked::Refused(k);
     }

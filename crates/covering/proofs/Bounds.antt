@@ -10,7 +10,7 @@ use native.Mathlib.Nat.{mul-le-mul-left, div-lt-iff-lt-mul}
 use native.Mathlib.Decide.{ℕ-discrete}
 use native.Mathlib.Omega.{arith}
 use Rattle.covering.specs.Sum.{sum}
-use Rattle.covering.specs.Cover.{Within, Hits, Covers, weight, AtLeast}
+use Rattle.covering.specs.Weighted.{Within, Hits, Covers, weight, AtLeast}
 
 -- ---- selections
 

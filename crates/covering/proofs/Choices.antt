@@ -10,11 +10,11 @@ use native.Mathlib.Omega.{arith}
 use lib.Dec.{ltb}
 use borrow.Author.Tests.{ltb-true, lt-ltb}
 use Rattle.numbers.specs.Below.{those}
-use Rattle.covering.specs.Sum.{pick, sum}
-use Rattle.covering.specs.Cover.{Within, Hits, weight, AtLeast, Minimum, Cover, total}
+use Rattle.covering.specs.Sum.{ifSet, sum}
+use Rattle.covering.specs.Weighted.{Within, Hits, weight, AtLeast, LeastCover, SetCovers, total}
 use Rattle.covering.specs.Search.{none, Reduced, Answers}
-use Rattle.covering.proofs.Flags.{not-set}
-use Rattle.covering.proofs.Sums.{sum-most, sum-skip, pick-le, pick-false}
+use Rattle.numbers.proofs.Flags.{not-set}
+use Rattle.covering.proofs.Sums.{sum-most, sum-skip, ifSet-le, ifSet-false}
 use Rattle.covering.proofs.Bounds.{within-mono, within-append, weight-append, hits-append, nothing, smaller, branch}
 use Rattle.covering.proofs.Reductions.{cover-same, cover-nothing}
 
@@ -77,18 +77,18 @@ unfolding those sum
 rows-weight w zero p = refl
 rows-weight w (suc n) p = omega (arith, weight-append w (those n p) (cond (p n) (n ∷ []) []), rows-weight w n p, last (p n))
   where
-    last : (b : Bool) → weight w (cond b (n ∷ []) []) ≡ pick b (w n)
+    last : (b : Bool) → weight w (cond b (n ∷ []) []) ≡ ifSet b (w n)
     last true = omega arith
     last false = refl
 
 -- An answer is a minimum cover, where the rows are those below n, each column has one, and all of them together weigh less than the limit.
 pub minimum : (cov : ℕ → ℕ → Type 0) (w : ℕ → ℕ) (N n m : ℕ) {A U : ℕ → Type 0} {limit k : ℕ} {p : ℕ → Bool} → n ≤ N → ((i : ℕ) → A i → i < n) → ((i : ℕ) → i < n → A i)
     → ((c : ℕ) → U c → (i : ℕ) × (i < n) × cov i c) → ((i : ℕ) → w i ≤ m) → n * m < limit → Answers cov w N A U limit k p
-    → Minimum cov w (λ i. i < n) U (those n p) k
+    → LeastCover cov w (λ i. i < n) U (those n p) k
 minimum cov w N n m {A} {U} {limit} {k} {p} le below all row most l f = record {
   within = rows-within (λ i. i < n) n p (λ i e. below i (found .live i e));
   covers = λ c u. let t = found .covers c u in rows-hit cov c n p (t .0) (below (t .0) (found .live (t .0) (t .1))) (t .1) (t .2);
-  weighs = rows-weight w n p ∙ sym (sum-skip n N le (λ i h o. pick-false (w i) (past i h))) ∙ found .weighs;
+  weighs = rows-weight w n p ∙ sym (sum-skip n N le (λ i h o. ifSet-false (w i) (past i h))) ∙ found .weighs;
   least = λ M h s. f .low .bound M (within-mono all M h) s;
 }
   where
@@ -96,9 +96,9 @@ minimum cov w N n m {A} {U} {limit} {k} {p} le below all row most l f = record {
     every i = ltb i n
 
     light : weight w (those n every) ≤ n * m
-    light = omega (arith, rows-weight w n every, sum-most n m {f = λ i. pick (every i) (w i)} (λ i. omega (arith, pick-le (every i) (w i), most i)))
+    light = omega (arith, rows-weight w n every, sum-most n m {f = λ i. ifSet (every i) (w i)} (λ i. omega (arith, ifSet-le (every i) (w i), most i)))
 
-    found : Cover cov w N A U p k
+    found : SetCovers cov w N A U p k
     found = f .cover (omega (
       arith,
       light,

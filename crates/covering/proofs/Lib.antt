@@ -1,5 +1,4 @@
 -- The laws of weighted covers.
-pub mod Flags
 pub mod Sums
 pub mod Bounds
 pub mod Reductions

@@ -9,10 +9,10 @@ use native.Mathlib.Nat.{add-zero}
 use native.Mathlib.Omega.{arith}
 use lib.Dec.{eqb}
 use borrow.Author.Tests.{eq-eqb, eqb-true}
-use Rattle.covering.specs.Sum.{pick, sum}
-use Rattle.covering.specs.Cover.{Within, Hits, weight, Cover}
+use Rattle.covering.specs.Sum.{ifSet, sum}
+use Rattle.covering.specs.Weighted.{Within, Hits, weight, SetCovers}
 use Rattle.covering.specs.Search.{none, only, _∪_, Reduced}
-use Rattle.covering.proofs.Flags.{clash, not-set, either-of, left-of, right-of}
+use Rattle.numbers.proofs.Flags.{clash, not-set, either-of, left-of, right-of}
 use Rattle.covering.proofs.Sums.{sum-same, sum-skip, sum-with}
 use Rattle.covering.proofs.Bounds.{smaller, narrower, branch, dominated, uncoverable}
 
@@ -20,21 +20,21 @@ module _ (cov : ℕ → ℕ → Type 0) (w : ℕ → ℕ) (n : ℕ) where
   -- ---- covers
 
   -- the same set and the same weight, said in other words
-  pub cover-same : {A U : ℕ → Type 0} {p q : ℕ → Bool} {k l : ℕ} → ((i : ℕ) → q i ≡ p i) → k ≡ l → Cover cov w n A U p k → Cover cov w n A U q l
+  pub cover-same : {A U : ℕ → Type 0} {p q : ℕ → Bool} {k l : ℕ} → ((i : ℕ) → q i ≡ p i) → k ≡ l → SetCovers cov w n A U p k → SetCovers cov w n A U q l
   cover-same h e x = record {
     live = λ i y. x .live i (sym (h i) ∙ y);
     covers = λ c u. let t = x .covers c u in (t .0, h (t .0) ∙ t .1, t .2);
-    weighs = sum-same n (λ i l. ap (λ (b : Bool). pick b (w i)) (h i)) ∙ x .weighs ∙ e;
+    weighs = sum-same n (λ i l. ap (λ (b : Bool). ifSet b (w i)) (h i)) ∙ x .weighs ∙ e;
   }
 
   -- no column is left
-  pub cover-nothing : {A U : ℕ → Type 0} → ((c : ℕ) → U c → ⊥) → Cover cov w n A U none 0
+  pub cover-nothing : {A U : ℕ → Type 0} → ((c : ℕ) → U c → ⊥) → SetCovers cov w n A U none 0
   unfolding sum
   cover-nothing e = record { live = λ i y. clash y refl; covers = λ c u. absurd (e c u); weighs = sum-skip 0 n (omega arith) (λ i l m. refl) }
 
   -- the row r with a cover of what it leaves
   pub cover-with : {A A′ U U′ : ℕ → Type 0} {p : ℕ → Bool} {k : ℕ} (r : ℕ) → r < n → A r → (A′ r → ⊥) → ((i : ℕ) → A′ i → A i)
-      → ((c : ℕ) → U c → cov r c ⊎ U′ c) → Cover cov w n A′ U′ p k → Cover cov w n A U (only r ∪ p) (w r + k)
+      → ((c : ℕ) → U c → cov r c ⊎ U′ c) → SetCovers cov w n A′ U′ p k → SetCovers cov w n A U (only r ∪ p) (w r + k)
   cover-with {A} {p = p} r l is out fewer left x = record {
     live = λ i y. ⊎-elim (λ e. subst A (sym (eqb-true i r e)) is) (λ z. fewer i (x .live i z)) (either-of (eqb i r) (p i) y);
     covers = λ c u. ⊎-elim (λ y. (r, left-of (eqb r r) (p r) refl (eq-eqb r r refl), y)) (λ v. let t = x .covers c v in (t .0, right-of (eqb (t .0) r) (p (t .0)) refl (t .1), t .2)) (left c u);
@@ -76,7 +76,7 @@ module _ (cov : ℕ → ℕ → Type 0) (w : ℕ → ℕ) (n : ℕ) where
     cover = λ p k x. record { live = x .live; covers = λ c u. by p k x c (along c u); weighs = x .weighs ∙ omega arith };
   }
     where
-      by : (p : ℕ → Bool) (k : ℕ) → Cover cov w n A U′ p k → (c : ℕ) → U′ c ⊎ ((d : ℕ) × U′ d × ((i : ℕ) → A i → cov i d → cov i c)) → (i : ℕ) × (p i ≡ true) × cov i c
+      by : (p : ℕ → Bool) (k : ℕ) → SetCovers cov w n A U′ p k → (c : ℕ) → U′ c ⊎ ((d : ℕ) × U′ d × ((i : ℕ) → A i → cov i d → cov i c)) → (i : ℕ) × (p i ≡ true) × cov i c
       by p k x c (inl v) = x .covers c v
       by p k x c (inr d) = let t = x .covers (d .0) (d .1) in (t .0, t .1, d .2 (t .0) (x .live (t .0) (t .1)) (t .2))
 

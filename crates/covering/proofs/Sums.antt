@@ -6,7 +6,7 @@ use native.Mathlib.Decide.{ℕ-discrete}
 use native.Mathlib.Omega.{arith}
 use lib.Dec.{eqb}
 use borrow.Author.Tests.{eq-eqb, ne-eqb}
-use Rattle.covering.specs.Sum.{pick, sum}
+use Rattle.covering.specs.Sum.{ifSet, sum}
 
 pub sum-same : (n : ℕ) {f g : ℕ → ℕ} → ((i : ℕ) → i < n → f i ≡ g i) → sum n f ≡ sum n g
 unfolding sum
@@ -49,29 +49,29 @@ unfolding sum
 sum-most zero m h = omega arith
 sum-most (suc n) m h = omega (arith, sum-most n m h, h n)
 
-pub pick-true : {b : Bool} (x : ℕ) → b ≡ true → pick b x ≡ x
-pick-true x e = ap (λ (b : Bool). pick b x) e
+pub ifSet-true : {b : Bool} (x : ℕ) → b ≡ true → ifSet b x ≡ x
+ifSet-true x e = ap (λ (b : Bool). ifSet b x) e
 
-pub pick-false : {b : Bool} (x : ℕ) → b ≡ false → pick b x ≡ 0
-pick-false x e = ap (λ (b : Bool). pick b x) e
+pub ifSet-false : {b : Bool} (x : ℕ) → b ≡ false → ifSet b x ≡ 0
+ifSet-false x e = ap (λ (b : Bool). ifSet b x) e
 
-pub pick-le : (b : Bool) (x : ℕ) → pick b x ≤ x
-pick-le true x = omega arith
-pick-le false x = omega arith
+pub ifSet-le : (b : Bool) (x : ℕ) → ifSet b x ≤ x
+ifSet-le true x = omega arith
+ifSet-le false x = omega arith
 
 -- a flag that is set only where another is
-pub pick-mono : (a b : Bool) (x : ℕ) → (a ≡ true → b ≡ true) → pick a x ≤ pick b x
-pick-mono true b x h = omega (arith, pick-true x (h refl))
-pick-mono false b x h = omega arith
+pub ifSet-mono : (a b : Bool) (x : ℕ) → (a ≡ true → b ≡ true) → ifSet a x ≤ ifSet b x
+ifSet-mono true b x h = omega (arith, ifSet-true x (h refl))
+ifSet-mono false b x h = omega arith
 
 -- one number more in a set
 pub sum-with : (n r : ℕ) (w : ℕ → ℕ) (p q : ℕ → Bool) → r < n → p r ≡ false → ((i : ℕ) → q i ≡ (eqb i r || p i))
-    → sum n (λ i. pick (q i) (w i)) ≡ w r + sum n (λ i. pick (p i) (w i))
+    → sum n (λ i. ifSet (q i) (w i)) ≡ w r + sum n (λ i. ifSet (p i) (w i))
 sum-with n r w p q l out e =
     omega (
       arith,
-      sum-change n r {f = λ i. pick (q i) (w i)} {g = λ i. pick (p i) (w i)} l
-          (λ i d. ap (λ (b : Bool). pick b (w i)) (e i ∙ ap (λ (b : Bool). b || p i) (ne-eqb i r d))),
-      pick-false (w r) out,
-      pick-true (w r) (e r ∙ ap (λ (b : Bool). b || p r) (eq-eqb r r refl)),
+      sum-change n r {f = λ i. ifSet (q i) (w i)} {g = λ i. ifSet (p i) (w i)} l
+          (λ i d. ap (λ (b : Bool). ifSet b (w i)) (e i ∙ ap (λ (b : Bool). b || p i) (ne-eqb i r d))),
+      ifSet-false (w r) out,
+      ifSet-true (w r) (e r ∙ ap (λ (b : Bool). b || p r) (eq-eqb r r refl)),
     )

@@ -1,4 +1,4 @@
 -- What a weighted cover is, what bounds it from below, and what a reduction keeps.
 pub mod Sum
-pub mod Cover
+pub mod Weighted
 pub mod Search

@@ -11,14 +11,14 @@ use Rattle.numbers.specs.Below.{among}
 use Rattle.cube.specs.Words.{Cover, rowMatches, formed, eachRow, allFormed, coverMatches, coverLiterals, cubeMatches, rowOf, numberOf, implicant, prime}
 use Rattle.cube.specs.Minimum.{Minimum, EquivalentSum, FewestTerms}
 use Rattle.cube.specs.McCluskey.{SingleAsterisk, Selection, BasisRows, sumOf, Basis}
-use Rattle.cube.proofs.Bools.{and-l, and-r, and-i, or-e, or-l, or-r}
+use Rattle.numbers.proofs.Bools.{and-l, and-r, and-i, or-e, or-l, or-r}
 use Rattle.cube.proofs.Digits.{contained-matches, contained-literals}
 use Rattle.cube.proofs.Implicants.{implicant-at, prime-implicant, prime-above}
-use Rattle.cube.proofs.Rows.{cube-lt, row-is-cube, row-literals, row-formed, row-of-matches, row-of-literals}
+use Rattle.cube.proofs.Rows.{one-to-one, row-of-matches, row-of-literals}
 use Rattle.cube.proofs.Theorems.{implements-on, implements-by}
 use Rattle.cube.proofs.Independent.{sound, rows-sound}
 use Rattle.cube.proofs.Minimum.{shortest}
-use Rattle.cube.proofs.McCluskey.{prime-from, sole-row, agreement}
+use Rattle.cube.proofs.McCluskey.{prime-from, agreement}
 
 module _ (n : ℕ) (t : List ℕ) where
   -- ---- a selection is a right list
@@ -30,7 +30,7 @@ module _ (n : ℕ) (t : List ℕ) where
   sum-formed : (qs : List ℕ) → T (allFormed n (sumOf n qs))
   unfolding eachRow
   sum-formed [] = tt
-  sum-formed (q ∷ qs) = and-i (formed n (rowOf n q)) (allFormed n (sumOf n qs)) (row-formed n q) (sum-formed qs)
+  sum-formed (q ∷ qs) = and-i (formed n (rowOf n q)) (allFormed n (sumOf n qs)) (one-to-one n .row-formed q) (sum-formed qs)
 
   -- a code that one of the rows matches
   sum-matches : (qs : List ℕ) (q c : ℕ) → T (among q qs) → q < 3 ^ n → T (cubeMatches n q c) → T (coverMatches (sumOf n qs) c)
@@ -79,7 +79,7 @@ module _ (n : ℕ) (t : List ℕ) where
   above (r ∷ rs) s =
       let own = and-l (sound n t r) (eachRow (sound n t) rs) s in
       let f = and-l (formed n r) (implicant n t (numberOf n r)) own in
-      let p = prime-above n t (numberOf n r) (cube-lt n (r .value) (r .care)) (and-r (formed n r) (implicant n t (numberOf n r)) own) in
+      let p = prime-above n t (numberOf n r) (one-to-one n .number-below r) (and-r (formed n r) (implicant n t (numberOf n r)) own) in
       let more = above rs (and-r (sound n t r) (eachRow (sound n t) rs) s) in
       record {
         cubes = p .cube ∷ more .cubes;
@@ -89,7 +89,7 @@ module _ (n : ℕ) (t : List ℕ) where
           more .light,
           row-of-literals n (p .cube) (p .below),
           contained-literals n (numberOf n r) (p .cube) (p .contains),
-          row-literals n (r .value) (r .care),
+          one-to-one n .same-literals r,
         );
         primes = λ q a.
             ⊎-elim (λ x. subst⁻¹ (λ (i : ℕ). (i < 3 ^ n) × T (prime n t i)) (eqb→eq q (p .cube) x) (p .below, p .is-prime)) (λ x. more .primes q x)
@@ -99,7 +99,7 @@ module _ (n : ℕ) (t : List ℕ) where
             (λ x. (
               p .cube,
               or-l (eqb (p .cube) (p .cube)) (among (p .cube) (more .cubes)) (eqb-refl (p .cube)),
-              contained-matches n (numberOf n r) (p .cube) c (p .contains) (subst T (row-is-cube n r f c) x),
+              contained-matches n (numberOf n r) (p .cube) c (p .contains) (subst T (one-to-one n .same-codes r f c) x),
             ))
             (λ x. let h = more .hits c x in (h .0, or-r (eqb (h .0) (p .cube)) (among (h .0) (more .cubes)) (h .1), h .2))
             (or-e (rowMatches r c) (coverMatches rs c) m);
@@ -126,12 +126,11 @@ module _ (n : ℕ) (t : List ℕ) where
           omega (arith, length-map selected (rowOf n), primes-above other e .long, b .fewest (primes-above other e .cubes) (above-selection other e));
     }
 
-    -- of the primes only q matches the column of its sole entry, so no other row was selected for it
+    -- only q has a cross in the column of its sole entry, so no other row was selected for it
     basis-sole : (q : ℕ) → SingleAsterisk n t q → T (among q selected)
     basis-sole q a =
         let r = b .selection .columns (a .column) (a .is-column) in
-        let p = is-prime selected (b .selection) (r .0) (r .1) in
-        subst (λ (i : ℕ). T (among i selected)) (sole-row n t q a (r .0) (p .0) (p .1) (r .2)) (r .1)
+        subst (λ (i : ℕ). T (among i selected)) (a .sole (r .0) (b .selection .rows (r .0) (r .1)) (r .2)) (r .1)
 
   -- a sum with the fewest terms gives basis rows
   above-basis : (rs : Cover) (f : FewestTerms n t rs) → BasisRows n t (primes-above rs (f .equivalent) .cubes)
@@ -148,7 +147,7 @@ module _ (n : ℕ) (t : List ℕ) where
   numbers-prime (r ∷ rs) f q a =
       ⊎-elim
       (λ x. subst⁻¹ (λ (i : ℕ). (i < 3 ^ n) × T (prime n t i)) (eqb→eq q (numberOf n r) x)
-      (cube-lt n (r .value) (r .care), and-l (prime n t (numberOf n r)) (eachRow (λ r. prime n t (numberOf n r)) rs) f))
+      (one-to-one n .number-below r, and-l (prime n t (numberOf n r)) (eachRow (λ r. prime n t (numberOf n r)) rs) f))
       (numbers-prime rs (and-r (prime n t (numberOf n r)) (eachRow (λ r. prime n t (numberOf n r)) rs) f) q)
       (or-e (eqb q (numberOf n r)) (among q (map (numberOf n) rs)) a)
 
@@ -160,7 +159,7 @@ module _ (n : ℕ) (t : List ℕ) where
       (λ x. (
         numberOf n r,
         or-l (eqb (numberOf n r) (numberOf n r)) (among (numberOf n r) (map (numberOf n) rs)) (eqb-refl (numberOf n r)),
-        subst T (row-is-cube n r (and-l (formed n r) (allFormed n rs) f) c) x,
+        subst T (one-to-one n .same-codes r (and-l (formed n r) (allFormed n rs) f) c) x,
       ))
       (λ x. let h = numbers-match rs c (and-r (formed n r) (allFormed n rs) f) x in (h .0, or-r (eqb (h .0) (numberOf n r)) (among (h .0) (map (numberOf n) rs)) (h .1), h .2))
       (or-e (rowMatches r c) (coverMatches rs c) m)

@@ -14,9 +14,9 @@ use borrow.Author.Tests.{ltb-false, eqb-true, not-false}
 use Rattle.cube.specs.Words.{rowsOf, prime, essential, primesOf, essentialsOf}
 use Rattle.cube.specs.Calls.{widest, badWidth, badLength, badCell, unequalLengths, mostRows, tooManyRows, badRow, Condition, when, firstOf, tableConditions, listConditions, Answer, refuses, gives, answered, written, Listed}
 use Rattle.cube.specs.declared.Counted.the-variants.{Count, Refused}
-use Rattle.cube.proofs.Bools.{and-l, and-r, not-e, eqb-of}
-use Rattle.cube.proofs.Below.{those-length}
-use Rattle.cube.proofs.Lent.{sets-front}
+use Rattle.numbers.proofs.Bools.{and-l, and-r, not-e, eqb-of}
+use Rattle.numbers.proofs.Below.{those-length}
+use Rattle.numbers.proofs.Lent.{sets-front}
 
 -- ---- a good width
 

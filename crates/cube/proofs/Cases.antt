@@ -12,8 +12,8 @@ use lib.ListN.{length}
 use Rattle.numbers.specs.Below.{every, some, those, among, run}
 use Rattle.cube.specs.Words.{Row, Cover, rowMatches, formed, ones, eachRow, allFormed, coverMatches, coverLiterals, implements, cubeMatches, cubeLiterals, within, implicant, prime, alone, essential, primesOf, essentialsOf}
 use Rattle.cube.specs.Cases.{Case, tableOf, Holds, AllHold, cases}
-use Rattle.cube.proofs.Bools.{and-l, and-r}
-use Rattle.cube.proofs.Independent.{Mark, apartFrom, independent, total, bounded}
+use Rattle.numbers.proofs.Bools.{and-l, and-r}
+use Rattle.cube.proofs.Independent.{Mark, apartFrom, independent, leastLiterals, bounded}
 
 -- a list, and the codes that show that none is better
 record Certificate : Type 0 where
@@ -29,18 +29,18 @@ listRight k rs =
     (allFormed (k .width) rs && implements (k .width) (tableOf k) rs) && (eqb (length rs) (k .rows) && eqb (coverLiterals (k .width) rs) (k .bits))
 
 abbrev marksRight : Case → List Mark → Bool
-marksRight k ms = independent (k .width) (tableOf k) ms && (eqb (length ms) (k .rows) && eqb (total ms) (k .bits))
+marksRight k ms = independent (k .width) (tableOf k) ms && (eqb (length ms) (k .rows) && eqb (leastLiterals ms) (k .bits))
 
 unfoldable certifies : Case → Certificate → Bool
 certifies k w = countsRight k && (listRight k (w .list) && marksRight k (w .marks))
 
--- an equation and another, tested together
+-- two equations, tested together
 both : (a b c d : ℕ) → T (eqb a b && eqb c d) → (a ≡ b) × (c ≡ d)
 both a b c d h = (eqb→eq a b (and-l (eqb a b) (eqb c d) h), eqb→eq c d (and-r (eqb a b) (eqb c d) h))
 
-holds : (k : Case) (w : Certificate) → T (certifies k w) → Holds k
+case-holds : (k : Case) (w : Certificate) → T (certifies k w) → Holds k
 unfolding certifies
-holds k w h =
+case-holds k w h =
     let n = k .width in
     let t = tableOf k in
     let rs = w .list in
@@ -51,8 +51,8 @@ holds k w h =
     let good = and-l (allFormed n rs && implements n t rs) (eqb (length rs) (k .rows) && eqb (coverLiterals n rs) (k .bits)) right in
     let sizes = both (length rs) (k .rows) (coverLiterals n rs) (k .bits) (and-r (allFormed n rs && implements n t rs) (eqb (length rs) (k .rows) && eqb (coverLiterals n rs) (k .bits)) right) in
     let marked = and-r (listRight k rs) (marksRight k ms) rest in
-    let far = and-l (independent n t ms) (eqb (length ms) (k .rows) && eqb (total ms) (k .bits)) marked in
-    let sums = both (length ms) (k .rows) (total ms) (k .bits) (and-r (independent n t ms) (eqb (length ms) (k .rows) && eqb (total ms) (k .bits)) marked) in
+    let far = and-l (independent n t ms) (eqb (length ms) (k .rows) && eqb (leastLiterals ms) (k .bits)) marked in
+    let sums = both (length ms) (k .rows) (leastLiterals ms) (k .bits) (and-r (independent n t ms) (eqb (length ms) (k .rows) && eqb (leastLiterals ms) (k .bits)) marked) in
     record {
       primes = counts .0;
       essentials = counts .1;
@@ -78,7 +78,7 @@ all-hold : (ks : List Case) (ws : List Certificate) → T (certified ks ws) → 
 unfolding certified
 all-hold [] ws h = tt
 all-hold (k ∷ ks) [] h = absurd h
-all-hold (k ∷ ks) (w ∷ ws) h = (holds k w (and-l (certifies k w) (certified ks ws) h), all-hold ks ws (and-r (certifies k w) (certified ks ws) h))
+all-hold (k ∷ ks) (w ∷ ws) h = (case-holds k w (and-l (certifies k w) (certified ks ws) h), all-hold ks ws (and-r (certifies k w) (certified ks ws) h))
 
 row : ℕ → ℕ → Row
 row v w = record { value = v; care = w }
@@ -101,5 +101,5 @@ certificates =
     ∷ []
 
 pub all-cases : AllHold cases
-unfolding cases certificates row mark certified certifies among tableOf every some those run rowMatches formed ones cubeMatches cubeLiterals within implicant prime alone essential primesOf essentialsOf coverMatches implements coverLiterals eachRow apartFrom independent total
+unfolding cases certificates row mark certified certifies among tableOf every some those run rowMatches formed ones cubeMatches cubeLiterals within implicant prime alone essential primesOf essentialsOf coverMatches implements coverLiterals eachRow apartFrom independent leastLiterals
 all-cases = all-hold cases certificates tt

@@ -11,9 +11,9 @@ use lib.Dec.{T, eqb, lit<}
 use lib.ListN.{length}
 use Rattle.numbers.specs.Below.{flag, every, those}
 use Rattle.cube.specs.Words.{offSet, fits, tested, digit, cubeMatches, cubeLiterals, valueOf, codesOf, implicant}
-use Rattle.cube.proofs.Bools.{and-l, and-r, fits-e}
-use Rattle.cube.proofs.Below.{those-one, those-split, those-length}
-use Rattle.cube.proofs.Digits.{putDigit, last-lt, flag-lt, is-tested, is-untested, matches-last, matches-rest, matches-at, value-at, value-lt, value-matches, value-alone, contained-matches, put-narrower, put-literals, matches-halves}
+use Rattle.numbers.proofs.Bools.{and-l, and-r}
+use Rattle.numbers.proofs.Below.{those-one, those-split, those-length, flag-lt}
+use Rattle.cube.proofs.Digits.{putDigit, last-lt, is-tested, is-untested, matches-last, matches-rest, matches-at, value-at, value-lt, value-matches, value-alone, contained-matches, put-narrower, put-literals, matches-halves, fits-e}
 
 -- the value is the lowest code
 value-least : (n q c : ℕ) → T (cubeMatches n q c) → valueOf n q ≤ c

@@ -12,7 +12,7 @@ use lib.ListN.{length, length-append}
 use lib.Pow.{pow-pos}
 use borrow.Author.Tests.{lt-ltb, le-ltb, eq-eqb, ne-eqb}
 use Rattle.cube.specs.Words.{cell, onSet, Row, Cover, rowMatches, formed, ones, eachRow, allFormed, coverMatches, coverLiterals, implements}
-use Rattle.cube.proofs.Bools.{and-r, and-i, eqb-of, lt-or-le}
+use Rattle.numbers.proofs.Bools.{and-r, and-i, eqb-of, lt-or-le}
 use Rattle.cube.proofs.Digits.{bit-lt}
 use Rattle.cube.proofs.Theorems.{implements-by}
 
@@ -89,8 +89,8 @@ module _ (n : ℕ) (f : ℕ → Bool) where
       last false = omega arith
 
   -- passing below m, or at m, is passing below m + 1
-  one-more : (m d : ℕ) → ((ltb d m && f d) || (f m && eqb d m)) ≡ (ltb d (suc m) && f d)
-  one-more m d = ⊎-elim below (λ x. ⊎-elim at above (eq-or-lt-of-le x)) (lt-or-le d m)
+  one-code-more : (m d : ℕ) → ((ltb d m && f d) || (f m && eqb d m)) ≡ (ltb d (suc m) && f d)
+  one-code-more m d = ⊎-elim below (λ x. ⊎-elim at above (eq-or-lt-of-le x)) (lt-or-le d m)
     where
       below : d < m → ((ltb d m && f d) || (f m && eqb d m)) ≡ (ltb d (suc m) && f d)
       below x =
@@ -113,7 +113,7 @@ module _ (n : ℕ) (f : ℕ → Bool) where
   unfolding singles coverMatches
   singles-match zero d l = sym (ap (λ (b : Bool). b && f d) (le-ltb d 0 (omega arith)))
   singles-match (suc m) d l =
-      matches-append (singles n f m) (cond (f m) (single n m ∷ []) []) d ∙ ap₂ _||_ (singles-match m d l) (here (f m)) ∙ one-more m d
+      matches-append (singles n f m) (cond (f m) (single n m ∷ []) []) d ∙ ap₂ _||_ (singles-match m d l) (here (f m)) ∙ one-code-more m d
     where
       here : (b : Bool) → coverMatches (cond b (single n m ∷ []) []) d ≡ (b && eqb d m)
       here true = ap (λ (b : Bool). b || false) (single-matches n m d l) ∙ or-false (eqb d m)
@@ -132,9 +132,9 @@ code-by-code n t = record {
   is-formed = singles-formed n (onSet t) (2 ^ n) (omega arith);
   right = implements-by n t (singles n (onSet t) (2 ^ n))
       (λ c l w. subst⁻¹ T (singles-match n (onSet t) (2 ^ n) c l) (and-i (ltb c (2 ^ n)) (onSet t c) (lt→ltb c (2 ^ n) l) w))
-      (λ c l b m. apart (cell t c) b (and-r (ltb c (2 ^ n)) (onSet t c) (subst T (singles-match n (onSet t) (2 ^ n) c l) m)));
+      (λ c l b m. wanted-not-barred (cell t c) b (and-r (ltb c (2 ^ n)) (onSet t c) (subst T (singles-match n (onSet t) (2 ^ n) c l) m)));
   rows = singles-length n (onSet t) (2 ^ n);
 }
   where
-    apart : (x : ℕ) → T (eqb x 0) → T (eqb x 1) → ⊥
-    apart x a b = let e : x ≡ 0 = eqb→eq x 0 a in let f : x ≡ 1 = eqb→eq x 1 b in omega arith
+    wanted-not-barred : (x : ℕ) → T (eqb x 0) → T (eqb x 1) → ⊥
+    wanted-not-barred x a b = let e : x ≡ 0 = eqb→eq x 0 a in let f : x ≡ 1 = eqb→eq x 1 b in omega arith

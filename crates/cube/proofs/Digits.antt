@@ -3,15 +3,16 @@
 -- The width is open. Assumes nothing.
 use mathlib.Core.Path.{_≡_, refl, sym, ap, ap₂, _∙_, subst, subst⁻¹}
 use mathlib.Core.Logic.{_⊎_, inl, inr, ⊎-elim}
-use mathlib.Core.Bool.{Bool, true, false, not, _&&_}
+use mathlib.Core.Bool.{Bool, true, not, _&&_}
 use Prim.Native.Nat.{ℕ, zero, suc, _+_, _*_, _^_, _/_, _%_, _<_, _≤_}
 use native.Mathlib.Nat.{not-suc-le-zero, le-of-suc-le-suc, mod-lt, pow-suc, pow-succ', div-div-eq-div-mul, div-one, mul-assoc}
 use native.Mathlib.Omega.{arith}
-use lib.Dec.{T, eqb, lit<}
+use lib.Dec.{T, eqb, eqb→eq, eqb-refl, lit<}
 use borrow.Author.Tests.{eq-eqb, ne-eqb}
 use Rattle.numbers.specs.Below.{flag}
 use Rattle.cube.specs.Words.{fits, tested, digit, cubeMatches, cubeLiterals, valueOf}
-use Rattle.cube.proofs.Bools.{and-l, and-r, and-i, fits-e, fits-two, fits-same, eq-or-ne}
+use Rattle.numbers.proofs.Below.{flag-lt}
+use Rattle.numbers.proofs.Bools.{and-l, and-r, and-i, or-e, or-r, eq-or-ne}
 
 -- the cube with digit d put at place k, counted from the last
 unfoldable pub putDigit : ℕ → ℕ → ℕ → ℕ
@@ -42,15 +43,21 @@ last-lt q = mod-lt q (lit< tt)
 pub bit-lt : (c : ℕ) → c % 2 < 2
 bit-lt c = mod-lt c (lit< tt)
 
-pub flag-lt : (b : Bool) → flag b < 2
-flag-lt true = lit< tt
-flag-lt false = lit< tt
-
 pub is-tested : (d : ℕ) → (d ≡ 2 → ⊥) → flag (tested d) ≡ 1
 is-tested d h = ap (λ (b : Bool). flag (not b)) (ne-eqb d 2 h)
 
 pub is-untested : (d : ℕ) → d ≡ 2 → flag (tested d) ≡ 0
 is-untested d h = ap (λ (b : Bool). flag (not b)) (eq-eqb d 2 h)
+
+-- a digit fits a bit: it is 2 or the bit
+pub fits-e : (d b : ℕ) → T (fits d b) → (d ≡ 2) ⊎ (d ≡ b)
+fits-e d b h = ⊎-elim (λ x. inl (eqb→eq d 2 x)) (λ x. inr (eqb→eq d b x)) (or-e (eqb d 2) (eqb d b) h)
+
+pub fits-two : (d b : ℕ) → d ≡ 2 → T (fits d b)
+fits-two d b e = subst⁻¹ (λ (i : ℕ). T (fits i b)) e tt
+
+pub fits-same : (d b : ℕ) → d ≡ b → T (fits d b)
+fits-same d b e = or-r (eqb d 2) (eqb d b) (subst (λ (i : ℕ). T (eqb d i)) e (eqb-refl d))
 
 -- a digit fits the bit of its value
 pub fits-value : (d : ℕ) → d < 3 → T (fits d (flag (eqb d 1)))
@@ -162,7 +169,7 @@ value-matches (suc n) q =
     subst⁻¹ T (matches-more n q (valueOf n (q / 3)) b (flag-lt (eqb (q % 3) 1)))
     (and-i (fits (q % 3) b) (cubeMatches n (q / 3) (valueOf n (q / 3))) (fits-value (q % 3) (last-lt q)) (value-matches n (q / 3)))
 
--- a cube with no untested digit matches its value alone
+-- a cube with no untested digit matches only its value
 pub value-alone : (n q : ℕ) → ((k : ℕ) → k < n → digit k q ≡ 2 → ⊥) → (c : ℕ) → c < 2 ^ n → T (cubeMatches n q c) → c ≡ valueOf n q
 unfolding digit valueOf
 value-alone zero q f c l h = let e : 2 ^ 0 ≡ 1 = refl in omega arith
@@ -189,21 +196,21 @@ contained-matches (suc n) q p c s h =
     (fits-e (p % 3) (q % 3) (contained-last n q p s)))
     (contained-matches n (q / 3) (p / 3) (c / 2) (contained-rest n q p s) (matches-rest n q c h))
 
--- p matches all that q matches, at one variable more
+-- p matches all that q matches, with one variable more
 module _ (n q p : ℕ) (f : (c : ℕ) → c < 2 ^ suc n → T (cubeMatches (suc n) q c) → T (cubeMatches (suc n) p c)) where
-  one-more : (c b : ℕ) → b < 2 → c < 2 ^ n → T (fits (q % 3) b) → T (cubeMatches n (q / 3) c) → T (fits (p % 3) b && cubeMatches n (p / 3) c)
-  one-more c b l m h k =
+  one-bit-more : (c b : ℕ) → b < 2 → c < 2 ^ n → T (fits (q % 3) b) → T (cubeMatches n (q / 3) c) → T (fits (p % 3) b && cubeMatches n (p / 3) c)
+  one-bit-more c b l m h k =
       subst T (matches-more n p c b l)
       (f (c * 2 + b) (code-more n c b l m) (subst⁻¹ T (matches-more n q c b l) (and-i (fits (q % 3) b) (cubeMatches n (q / 3) c) h k)))
 
   its-last : T (fits (p % 3) (q % 3))
   its-last = fits-digit (q % 3) (p % 3) (last-lt q) λ b l h.
-      and-l (fits (p % 3) b) (cubeMatches n (p / 3) (valueOf n (q / 3))) (one-more (valueOf n (q / 3)) b l (value-lt n (q / 3)) h (value-matches n (q / 3)))
+      and-l (fits (p % 3) b) (cubeMatches n (p / 3) (valueOf n (q / 3))) (one-bit-more (valueOf n (q / 3)) b l (value-lt n (q / 3)) h (value-matches n (q / 3)))
 
   its-rest : (c : ℕ) → c < 2 ^ n → T (cubeMatches n (q / 3) c) → T (cubeMatches n (p / 3) c)
   its-rest c l h =
       let b : ℕ = flag (eqb (q % 3) 1) in
-      and-r (fits (p % 3) b) (cubeMatches n (p / 3) c) (one-more c b (flag-lt (eqb (q % 3) 1)) l (fits-value (q % 3) (last-lt q)) h)
+      and-r (fits (p % 3) b) (cubeMatches n (p / 3) c) (one-bit-more c b (flag-lt (eqb (q % 3) 1)) l (fits-value (q % 3) (last-lt q)) h)
 
 pub matches-contained : (n q p : ℕ) → ((c : ℕ) → c < 2 ^ n → T (cubeMatches n q c) → T (cubeMatches n p c)) → T (contained n q p)
 unfolding contained
@@ -218,7 +225,7 @@ contained-refl (suc n) q = contained-by n q q (fits-same (q % 3) (q % 3) refl) (
 pub contained-trans : (n q p r : ℕ) → T (contained n q p) → T (contained n p r) → T (contained n q r)
 contained-trans n q p r a b = matches-contained n q r (λ c l h. contained-matches n p r c b (contained-matches n q p c a h))
 
--- a containing cube tests no more
+-- a containing cube tests no more digits
 pub contained-literals : (n q p : ℕ) → T (contained n q p) → cubeLiterals n p ≤ cubeLiterals n q
 unfolding cubeLiterals
 contained-literals zero q p h = omega arith
@@ -240,7 +247,7 @@ put-lt (suc n) (suc k) d q l m h =
     let g : putDigit k d (q / 3) < 3 ^ n = put-lt n k d (q / 3) (le-of-suc-le-suc l) m (omega arith) in
     omega arith
 
--- a digit made 2: the cube is contained in what it becomes, which tests one digit less
+-- a digit made 2: the cube is contained in what it becomes, which tests one digit fewer
 pub put-wider : (n k q : ℕ) → k < n → T (contained n q (putDigit k 2 q))
 unfolding putDigit
 put-wider zero k q l = absurd (not-suc-le-zero l)

@@ -9,8 +9,8 @@ use native.Mathlib.Omega.{arith}
 use lib.Dec.{T, eqb, ltb, eqb→eq, lit<, ltb→lt, lt→ltb}
 use Rattle.numbers.specs.Below.{some}
 use Rattle.cube.specs.Words.{offSet, tested, digit, cubeMatches, cubeLiterals, valueOf, within, implicant, wider, prime}
-use Rattle.cube.proofs.Bools.{and-l, and-r, and-i, imp-e, imp-i, nand-e, nand-i, not-e, not-i, same, holds, eqb-of}
-use Rattle.cube.proofs.Below.{every-at, every-by, some-at, none-at, none-by}
+use Rattle.numbers.proofs.Bools.{and-l, and-r, and-i, imp-e, imp-i, nand-e, nand-i, not-e, not-i, same, holds, eqb-of}
+use Rattle.numbers.proofs.Below.{every-at, every-by, some-at, none-at, none-by}
 use Rattle.cube.proofs.Digits.{putDigit, contained, contained-matches, matches-contained, contained-refl, contained-trans, put-wider, put-literals, put-lt, put-narrower, is-tested, matches-halves, value-lt, value-matches, value-alone, spare}
 
 -- ---- implicants
@@ -62,7 +62,7 @@ implicant-split n t k q l e = same (implicant n t q) (implicant n t low && impli
         ⊎-elim (implicant-at n t low (and-l (implicant n t low) (implicant n t high) h) c m)
         (implicant-at n t high (and-r (implicant n t low) (implicant n t high) h) c m) (matches-halves n k q c x)
 
--- and a cube with no untested digit is one where its code is not barred
+-- and a cube with no untested digit is an implicant exactly when its code is not barred
 pub implicant-code : (n : ℕ) (t : List ℕ) (q : ℕ) → ((k : ℕ) → k < n → digit k q ≡ 2 → ⊥) → implicant n t q ≡ not (offSet t (valueOf n q))
 implicant-code n t q f =
     same (implicant n t q) (not (offSet t (valueOf n q)))
@@ -71,7 +71,7 @@ implicant-code n t q f =
 
 -- ---- primes
 
--- digit k of q is a literal that can be given up: without it the cube is an implicant still
+-- digit k of q is a literal that can be given up: without it the cube is still an implicant
 abbrev pub expands : ℕ → List ℕ → ℕ → ℕ → Bool
 expands n t q k = tested (digit k q) && implicant n t (putDigit k 2 q)
 
@@ -94,7 +94,7 @@ module _ (n : ℕ) (t : List ℕ) (q p : ℕ) (h : T (wider n t q p)) where
   wider-contains = within-contained n q p (and-r (ltb (cubeLiterals n p) (cubeLiterals n q)) (within n q p) rest)
 
 module _ (n : ℕ) (t : List ℕ) (q : ℕ) where
-  -- a literal to give up makes a wider implicant
+  -- giving up a literal makes a wider implicant
   expands-wider : (k : ℕ) → k < n → T (expands n t q k) → T (wider n t q (putDigit k 2 q))
   expands-wider k m h =
       let p : ℕ = putDigit k 2 q in

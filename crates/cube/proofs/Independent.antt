@@ -1,5 +1,5 @@
--- A lower bound for every list: wanted codes of which no implicant matches two are independent, so each takes a row of its own, and a row that
--- matches a code tests at least as many bits as the least implicant of that code. Assumes nothing.
+-- A lower bound for every list: wanted codes are independent when no implicant matches two of them. Each of them takes a row of its own, and a row
+-- that matches a code tests at least as many bits as the least implicant of that code. Assumes nothing.
 use mathlib.Core.Path.{_≡_, refl, ap, subst, subst⁻¹}
 use mathlib.Core.Logic.{_⊎_, inl, inr, ⊎-elim}
 use mathlib.Core.Bool.{Bool, true, not, _&&_, _||_}
@@ -10,10 +10,10 @@ use lib.Dec.{T, ltb, leb, leb→le, ltb→lt}
 use lib.ListN.{length}
 use Rattle.numbers.specs.Below.{every}
 use Rattle.cube.specs.Words.{onSet, Row, Cover, rowMatches, formed, rowLiterals, eachRow, allFormed, coverMatches, coverLiterals, implements, cubeMatches, cubeLiterals, numberOf, implicant}
-use Rattle.cube.proofs.Bools.{and-l, and-r, and-i, or-e, or-l, or-r, imp-e, nand-e}
-use Rattle.cube.proofs.Below.{every-at}
+use Rattle.numbers.proofs.Bools.{and-l, and-r, and-i, or-e, or-l, or-r, imp-e, nand-e}
+use Rattle.numbers.proofs.Below.{every-at}
 use Rattle.cube.proofs.Implicants.{implicant-by}
-use Rattle.cube.proofs.Rows.{cube-lt, row-is-cube, row-literals}
+use Rattle.cube.proofs.Rows.{one-to-one}
 use Rattle.cube.proofs.Theorems.{implements-on, implements-off}
 
 -- a wanted code, and the least number of literals of an implicant that matches it
@@ -25,24 +25,24 @@ pub record Mark : Type 0 where
 abbrev pub apart : ℕ → List ℕ → ℕ → ℕ → Bool
 apart n t c d = every (3 ^ n) (λ p. not (implicant n t p) || not (cubeMatches n p c && cubeMatches n p d))
 
--- every implicant that matches the code has at least its least literals
-abbrev pub light : ℕ → List ℕ → Mark → Bool
-light n t m = every (3 ^ n) (λ p. not (implicant n t p && cubeMatches n p (m .code)) || leb (m .least) (cubeLiterals n p))
+-- the least of a mark is right: every implicant that matches its code has at least that many literals
+abbrev pub leastRight : ℕ → List ℕ → Mark → Bool
+leastRight n t m = every (3 ^ n) (λ p. not (implicant n t p && cubeMatches n p (m .code)) || leb (m .least) (cubeLiterals n p))
 
 -- code c is apart from the code of each mark
 unfoldable pub apartFrom : ℕ → List ℕ → ℕ → List Mark → Bool
 apartFrom n t c [] = true
 apartFrom n t c (d ∷ ds) = apart n t c (d .code) && apartFrom n t c ds
 
--- the codes are wanted, their least literals are right, and each two are apart
+-- the codes are wanted, the least of each is right, and any two are apart
 unfoldable pub independent : ℕ → List ℕ → List Mark → Bool
 independent n t [] = true
-independent n t (m ∷ ms) = ((ltb (m .code) (2 ^ n) && onSet t (m .code)) && (light n t m && apartFrom n t (m .code) ms)) && independent n t ms
+independent n t (m ∷ ms) = ((ltb (m .code) (2 ^ n) && onSet t (m .code)) && (leastRight n t m && apartFrom n t (m .code) ms)) && independent n t ms
 
 -- their least literals, summed
-unfoldable pub total : List Mark → ℕ
-total [] = 0
-total (m ∷ ms) = m .least + total ms
+unfoldable pub leastLiterals : List Mark → ℕ
+leastLiterals [] = 0
+leastLiterals (m ∷ ms) = m .least + leastLiterals ms
 
 -- a formed row whose cube is an implicant
 abbrev pub sound : ℕ → List ℕ → Row → Bool
@@ -102,28 +102,28 @@ module _ (n : ℕ) (t : List ℕ) where
     its-cube : T (implicant n t (numberOf n r))
     its-cube = and-r (formed n r) (implicant n t (numberOf n r)) s
 
-    cube-matches : (c : ℕ) → T (rowMatches r c) → T (cubeMatches n (numberOf n r) c)
-    cube-matches c m = subst T (row-is-cube n r (and-l (formed n r) (implicant n t (numberOf n r)) s) c) m
+    its-cube-matches : (c : ℕ) → T (rowMatches r c) → T (cubeMatches n (numberOf n r) c)
+    its-cube-matches c m = subst T (one-to-one n .same-codes r (and-l (formed n r) (implicant n t (numberOf n r)) s) c) m
 
     -- it matches no two codes that are apart
     not-both : (c d : ℕ) → T (apart n t c d) → T (rowMatches r c) → T (rowMatches r d) → ⊥
     not-both c d a x y =
         let q : ℕ = numberOf n r in
         nand-e (implicant n t q) (cubeMatches n q c && cubeMatches n q d)
-        (every-at (3 ^ n) (λ p. not (implicant n t p) || not (cubeMatches n p c && cubeMatches n p d)) a q (cube-lt n (r .value) (r .care))) its-cube
-        (and-i (cubeMatches n q c) (cubeMatches n q d) (cube-matches c x) (cube-matches d y))
+        (every-at (3 ^ n) (λ p. not (implicant n t p) || not (cubeMatches n p c && cubeMatches n p d)) a q (one-to-one n .number-below r)) its-cube
+        (and-i (cubeMatches n q c) (cubeMatches n q d) (its-cube-matches c x) (its-cube-matches d y))
 
-    -- and tests at least the least literals of a code that it matches
-    at-least : (m : Mark) → T (light n t m) → T (rowMatches r (m .code)) → m .least ≤ rowLiterals n r
+    -- and tests at least as many bits as the least of a code that it matches
+    at-least : (m : Mark) → T (leastRight n t m) → T (rowMatches r (m .code)) → m .least ≤ rowLiterals n r
     at-least m a x =
         let q : ℕ = numberOf n r in
         omega (
           arith,
-          row-literals n (r .value) (r .care),
+          one-to-one n .same-literals r,
           leb→le (m .least) (cubeLiterals n q)
               (imp-e (implicant n t q && cubeMatches n q (m .code)) (leb (m .least) (cubeLiterals n q))
-              (every-at (3 ^ n) (λ p. not (implicant n t p && cubeMatches n p (m .code)) || leb (m .least) (cubeLiterals n p)) a q (cube-lt n (r .value) (r .care)))
-              (and-i (implicant n t q) (cubeMatches n q (m .code)) its-cube (cube-matches (m .code) x))),
+              (every-at (3 ^ n) (λ p. not (implicant n t p && cubeMatches n p (m .code)) || leb (m .least) (cubeLiterals n p)) a q (one-to-one n .number-below r))
+              (and-i (implicant n t q) (cubeMatches n q (m .code)) its-cube (its-cube-matches (m .code) x))),
         )
 
   -- the marks that are apart from c are matched by the other rows
@@ -136,33 +136,33 @@ module _ (n : ℕ) (t : List ℕ) where
       (p .either (d .code) (and-l (coverMatches rs (d .code)) (met rs ds) m)))
       (still-met c rs p ds (and-r (apart n t c (d .code)) (apartFrom n t c ds) a) (and-r (coverMatches rs (d .code)) (met rs ds) m))
 
-  -- the parts of what is tested of the first mark
+  -- the parts of the test of the first mark
   module _ (m : Mark) (ms : List Mark) (i : T (independent n t (m ∷ ms))) where
     its-code : T (ltb (m .code) (2 ^ n) && onSet t (m .code))
     unfolding independent
     its-code =
-        and-l (ltb (m .code) (2 ^ n) && onSet t (m .code)) (light n t m && apartFrom n t (m .code) ms)
-        (and-l ((ltb (m .code) (2 ^ n) && onSet t (m .code)) && (light n t m && apartFrom n t (m .code) ms)) (independent n t ms) i)
+        and-l (ltb (m .code) (2 ^ n) && onSet t (m .code)) (leastRight n t m && apartFrom n t (m .code) ms)
+        (and-l ((ltb (m .code) (2 ^ n) && onSet t (m .code)) && (leastRight n t m && apartFrom n t (m .code) ms)) (independent n t ms) i)
 
-    its-bounds : T (light n t m && apartFrom n t (m .code) ms)
+    its-bounds : T (leastRight n t m && apartFrom n t (m .code) ms)
     unfolding independent
     its-bounds =
-        and-r (ltb (m .code) (2 ^ n) && onSet t (m .code)) (light n t m && apartFrom n t (m .code) ms)
-        (and-l ((ltb (m .code) (2 ^ n) && onSet t (m .code)) && (light n t m && apartFrom n t (m .code) ms)) (independent n t ms) i)
+        and-r (ltb (m .code) (2 ^ n) && onSet t (m .code)) (leastRight n t m && apartFrom n t (m .code) ms)
+        (and-l ((ltb (m .code) (2 ^ n) && onSet t (m .code)) && (leastRight n t m && apartFrom n t (m .code) ms)) (independent n t ms) i)
 
     the-others : T (independent n t ms)
     unfolding independent
-    the-others = and-r ((ltb (m .code) (2 ^ n) && onSet t (m .code)) && (light n t m && apartFrom n t (m .code) ms)) (independent n t ms) i
+    the-others = and-r ((ltb (m .code) (2 ^ n) && onSet t (m .code)) && (leastRight n t m && apartFrom n t (m .code) ms)) (independent n t ms) i
 
   bound : (ms : List Mark) (rs : Cover) → T (independent n t ms) → T (eachRow (sound n t) rs) → T (met rs ms)
-      → (length ms ≤ length rs) × (total ms ≤ coverLiterals n rs)
-  unfolding met total
+      → (length ms ≤ length rs) × (leastLiterals ms ≤ coverLiterals n rs)
+  unfolding met leastLiterals
   bound [] rs i s h = (omega arith, omega arith)
   bound (m ∷ ms) rs i s h =
       let p = pull (sound n t) n (m .code) rs s (and-l (coverMatches rs (m .code)) (met rs ms) h) in
-      let far = and-r (light n t m) (apartFrom n t (m .code) ms) (its-bounds m ms i) in
+      let far = and-r (leastRight n t m) (apartFrom n t (m .code) ms) (its-bounds m ms i) in
       let ih = bound ms (p .rest) (the-others m ms i) (p .others) (still-met (m .code) rs p ms far (and-r (coverMatches rs (m .code)) (met rs ms) h)) in
-      let own = at-least (p .row) (p .passes) m (and-l (light n t m) (apartFrom n t (m .code) ms) (its-bounds m ms i)) (p .matches) in
+      let own = at-least (p .row) (p .passes) m (and-l (leastRight n t m) (apartFrom n t (m .code) ms) (its-bounds m ms i)) (p .matches) in
       (omega (arith, p .shorter, ih .0), omega (arith, p .lighter, ih .1, own))
 
   -- the rows of a right list are sound and meet every mark
@@ -175,7 +175,7 @@ module _ (n : ℕ) (t : List ℕ) where
         let fr : T (formed n r) = and-l (formed n r) (allFormed n ps) f in
         and-i (sound n t r) (eachRow (sound n t) ps)
         (and-i (formed n r) (implicant n t q) fr
-        (implicant-by n t q (λ c l x y. implements-off n t rs g c l y (h c (or-l (rowMatches r c) (coverMatches ps c) (subst⁻¹ T (row-is-cube n r fr c) x))))))
+        (implicant-by n t q (λ c l x y. implements-off n t rs g c l y (h c (or-l (rowMatches r c) (coverMatches ps c) (subst⁻¹ T (one-to-one n .same-codes r fr c) x))))))
         (rows-sound ps (λ c m. h c (or-r (rowMatches r c) (coverMatches ps c) m)) (and-r (formed n r) (allFormed n ps) f))
 
     all-met : (ms : List Mark) → T (independent n t ms) → T (met rs ms)
@@ -187,5 +187,5 @@ module _ (n : ℕ) (t : List ℕ) where
         (implements-on n t rs g (m .code) (ltb→lt _ _ (and-l (ltb (m .code) (2 ^ n)) (onSet t (m .code)) k)) (and-r (ltb (m .code) (2 ^ n)) (onSet t (m .code)) k))
         (all-met ms (the-others m ms i))
 
-    pub bounded : (ms : List Mark) → T (independent n t ms) → T (allFormed n rs) → (length ms ≤ length rs) × (total ms ≤ coverLiterals n rs)
+    pub bounded : (ms : List Mark) → T (independent n t ms) → T (allFormed n rs) → (length ms ≤ length rs) × (leastLiterals ms ≤ coverLiterals n rs)
     bounded ms i f = bound ms rs i (rows-sound rs (λ c m. m) f) (all-met ms i)

@@ -1,16 +1,18 @@
--- A list of rows in two arrays, place by place: row i is place i of each, so that a loop over the places finds what the list's own recursion says.
--- Assumes nothing.
+-- A list of rows in two arrays, place by place: row i is place i of each, so that a loop over the places finds what the list's own recursion
+-- says; and the first rows of two arrays, with one row more and how many they are. Assumes nothing.
 use mathlib.Core.Path.{_≡_, refl, sym, ap, _∙_}
 use mathlib.Core.Bool.{Bool, false, not, _||_}
-use mathlib.Core.List.{List, [], _∷_}
-use Prim.Native.Nat.{ℕ, suc}
+use mathlib.Core.List.{List, [], _∷_, _++_}
+use Prim.Native.Nat.{ℕ, zero, suc, _<_, _≤_}
+use native.Mathlib.Nat.{not-suc-le-zero, le-of-suc-le-suc}
 use native.Mathlib.Omega.{arith}
-use lib.ListN.{length, getD}
+use lib.ListN.{length, take, getD}
+use lib.Seq.{length-take-le}
 use Rattle.numbers.specs.Below.{some}
 use Rattle.cube.specs.Words.{Row, Cover, rowMatches, formed, eachRow, coverMatches, rowsOf}
 use Rattle.cube.specs.Calls.{badRow}
-use Rattle.cube.proofs.Bools.{not-and}
-use Rattle.cube.proofs.Below.{some-front}
+use Rattle.numbers.proofs.Bools.{not-and}
+use Rattle.numbers.proofs.Below.{some-front}
 
 -- row i of two arrays
 abbrev pub rowIn : List ℕ → List ℕ → ℕ → Row
@@ -44,7 +46,7 @@ matches-place vs ws c e = any (rowsOf vs ws) ∙ any-place (λ r. rowMatches r c
     any [] = refl
     any (r ∷ rs) = ap (λ (b : Bool). rowMatches r c || b) (any rs)
 
--- a row is not formed where that in some place is not
+-- some row of the list is not formed where the row in some place is not
 pub bad-place : (n : ℕ) (vs ws : List ℕ) → length vs ≡ length ws → badRow n (rowsOf vs ws) ≡ some (length vs) (λ i. not (formed n (rowIn vs ws i)))
 unfolding eachRow anyRow
 bad-place n vs ws e = any (rowsOf vs ws) ∙ any-place (λ r. not (formed n r)) vs ws e
@@ -52,3 +54,19 @@ bad-place n vs ws e = any (rowsOf vs ws) ∙ any-place (λ r. not (formed n r)) 
     any : (rs : Cover) → not (eachRow (formed n) rs) ≡ anyRow (λ r. not (formed n r)) rs
     any [] = refl
     any (r ∷ rs) = not-and (formed n r) (eachRow (formed n) rs) ∙ ap (λ (b : Bool). not (formed n r) || b) (any rs)
+
+-- ---- the first rows
+
+-- "row i is place i of the value array with place i of the care array."
+pub rows-more : (i : ℕ) (vs ws : List ℕ) → i < length vs → i < length ws
+    → rowsOf (take (suc i) vs) (take (suc i) ws) ≡ rowsOf (take i vs) (take i ws) ++ (record { value = getD vs i 0; care = getD ws i 0 } ∷ [])
+unfolding rowsOf
+rows-more i [] ws l m = absurd (not-suc-le-zero l)
+rows-more i (v ∷ vs) [] l m = absurd (not-suc-le-zero m)
+rows-more zero (v ∷ vs) (w ∷ ws) l m = refl
+rows-more (suc i) (v ∷ vs) (w ∷ ws) l m =
+    ap (λ (rs : Cover). record { value = v; care = w } ∷ rs) (rows-more i vs ws (le-of-suc-le-suc l) (le-of-suc-le-suc m))
+
+pub rows-first : (i : ℕ) (vs ws : List ℕ) → i ≤ length vs → i ≤ length ws → length (rowsOf (take i vs) (take i ws)) ≡ i
+rows-first i vs ws l m =
+    rows-length (take i vs) (take i ws) (length-take-le i vs l ∙ sym (length-take-le i ws m)) ∙ length-take-le i vs l

@@ -1,23 +1,58 @@
--- Document 000's prime implicants and single asterisk rows are document 01's primes and essentials: the theorems of `specs/McCluskey.antt`.
+-- Document 000's terms are document 01's wanted and free codes, and its prime implicants and single asterisk rows the primes and essentials: the
+-- theorems `Terms` and `Agreement` of `specs/McCluskey.antt`. A cell that is not above 2 is 0, 1 or 2.
 -- The characters are the implicants: two that combine are the halves of what they form, and an implicant with a dash is formed of its halves. So a
 -- character is checked exactly when a literal of it can be given up, and a prime is an implicant that has none. Assumes nothing.
 use mathlib.Core.Path.{_≡_, refl, sym, ap, _∙_, subst, subst⁻¹}
-use mathlib.Core.Logic.{_⊎_, inl, inr}
-use mathlib.Core.Bool.{Bool, true, false, not}
+use mathlib.Core.Logic.{_⊎_, inl, inr, ⊎-elim}
+use mathlib.Core.Bool.{Bool, true, false, not, _||_}
 use mathlib.Core.List.{List}
-use Prim.Native.Nat.{ℕ, zero, suc, _+_, _-_, _^_, _<_}
+use Prim.Native.Nat.{ℕ, zero, suc, _+_, _-_, _^_, _<_, _≤_}
 use native.Mathlib.Omega.{arith}
-use lib.Dec.{T, eqb, eqb→eq, lit<}
-use Rattle.numbers.specs.Below.{some}
-use Rattle.cube.specs.Words.{tested, digit, cubeMatches, cubeLiterals, valueOf, implicant, prime, essential, primesOf, essentialsOf}
-use Rattle.cube.specs.McCluskey.{listed, BinaryEquivalent, IdenticalExcept, Combination, Character, Checked, PrimeImplicant, cross, SingleAsterisk, Agreement}
-use Rattle.cube.proofs.Bools.{and-l, and-r, and-i, not-e, not-i, holds, fits-same, eqb-of}
-use Rattle.cube.proofs.Below.{some-at, some-by, none-at, none-by, count-one, count-alone, those-lists}
-use Rattle.cube.proofs.Digits.{putDigit, two, digit-lt, bit, bit-weight, put-lt, put-digit, put-other, put-between, put-narrower, value-lt, value-alone}
+use lib.Dec.{T, eqb, ltb, eqb→eq, lit<}
+use lib.ListN.{length, List·getD-eq-default}
+use borrow.Author.Tests.{ltb-false}
+use Rattle.numbers.specs.Below.{flag, some}
+use Rattle.cube.specs.Words.{cell, tested, digit, cubeMatches, cubeLiterals, valueOf, implicant, prime, essential, primesOf, essentialsOf}
+use Rattle.cube.specs.Calls.{badCell}
+use Rattle.cube.specs.McCluskey.{isTerm, BinaryEquivalent, IdenticalExcept, Combination, Character, CheckMarked, PrimeImplicant, cross, SingleAsterisk, crosses, Terms, Agreement}
+use Rattle.numbers.proofs.Bools.{and-l, and-r, and-i, not-e, not-i, is-false, holds, eqb-of, lt-or-le}
+use Rattle.numbers.proofs.Below.{some-at, some-by, none-at, none-by, count-one, count-alone, those-each-once}
+use Rattle.cube.proofs.Digits.{putDigit, two, digit-lt, bit, bit-weight, put-lt, put-digit, put-other, put-between, put-narrower, value-lt, value-alone, fits-same}
 use Rattle.cube.proofs.Codes.{untested-falls, literals-le}
 use Rattle.cube.proofs.Implicants.{implicant-contained, implicant-split, implicant-code, expands, maximal, prime-is-maximal}
 use Rattle.cube.proofs.Positions.{of-places, value-bit, one-is}
 use Rattle.cube.proofs.Theorems.{meanings}
+
+-- ---- terms
+
+-- no cell is above 2, those past the end included, which are 0
+cell-lt : (t : List ℕ) → badCell t ≡ false → (c : ℕ) → cell t c < 3
+unfolding badCell
+cell-lt t e c = ⊎-elim inside past (lt-or-le c (length t))
+  where
+    above : ℕ → Bool
+    above c = ltb 2 (cell t c)
+
+    inside : c < length t → cell t c < 3
+    inside l = omega (arith, ltb-false 2 (cell t c) (is-false (above c) (λ x. subst T e (some-by (length t) above c l x))))
+
+    past : length t ≤ c → cell t c < 3
+    past l = omega (arith, List·getD-eq-default t 0 l)
+
+pub terms : (t : List ℕ) → Terms t
+terms t = record { p-terms-and-d-terms = λ e c. in-list (cell t c) (cell-lt t e c); one-entry = λ e c. one-of (cell t c) (cell-lt t e c) }
+  where
+    in-list : (x : ℕ) → x < 3 → not (eqb x 0) ≡ (eqb x 1 || eqb x 2)
+    in-list zero l = refl
+    in-list (suc zero) l = refl
+    in-list (suc (suc zero)) l = refl
+    in-list (suc (suc (suc x))) l = absurd (omega arith)
+
+    one-of : (x : ℕ) → x < 3 → flag (eqb x 0) + flag (eqb x 1) + flag (eqb x 2) ≡ 1
+    one-of zero l = refl
+    one-of (suc zero) l = refl
+    one-of (suc (suc zero)) l = refl
+    one-of (suc (suc (suc x))) l = absurd (omega arith)
 
 -- ---- combinations
 
@@ -54,12 +89,12 @@ either-first n a b r g = record {
 module _ (n : ℕ) (t : List ℕ) where
   -- ---- a character is an implicant
 
-  -- a p-term matches its code alone
-  p-term-implicant : (c q : ℕ) → T (listed t c) → BinaryEquivalent n c q → T (implicant n t q)
+  -- a p-term matches only its code
+  p-term-implicant : (c q : ℕ) → T (isTerm t c) → BinaryEquivalent n c q → T (implicant n t q)
   p-term-implicant c q h e =
       let undashed : (k : ℕ) → k < n → digit k q ≡ 2 → ⊥ = λ k l x. omega (arith, e .digits k l) in
       let m : T (cubeMatches n q c) = of-places n q c (λ k l. fits-same (digit k q) (bit k c) (e .digits k l ∙ sym (bit-weight k c))) in
-      subst⁻¹ T (implicant-code n t q undashed) (subst (λ (i : ℕ). T (listed t i)) (value-alone n q undashed c (e .row) m) h)
+      subst⁻¹ T (implicant-code n t q undashed) (subst (λ (i : ℕ). T (isTerm t i)) (value-alone n q undashed c (e .row) m) h)
 
   -- two characters that combine are the halves of what they form
   combined-implicant : (a b r : ℕ) → a < 3 ^ n → b < 3 ^ n → T (implicant n t a) → T (implicant n t b) → Combination n a b r → T (implicant n t r)
@@ -151,7 +186,7 @@ module _ (n : ℕ) (t : List ℕ) where
   -- ---- a character is checked exactly when a literal of it can be given up
 
   -- the character and its other half, at the position of that literal, combine
-  expands-checked : (q k : ℕ) → q < 3 ^ n → k < n → T (expands n t q k) → Checked n t q
+  expands-checked : (q k : ℕ) → q < 3 ^ n → k < n → T (expands n t q k) → CheckMarked n t q
   expands-checked q k l m h =
       let d : ℕ = digit k q in
       let p : ℕ = putDigit k 2 q in
@@ -169,7 +204,7 @@ module _ (n : ℕ) (t : List ℕ) where
       }
 
   -- what it forms with another is itself with that digit given up
-  checked-expands : (q : ℕ) → q < 3 ^ n → T (implicant n t q) → Checked n t q → (k : ℕ) × (k < n) × T (expands n t q k)
+  checked-expands : (q : ℕ) → q < 3 ^ n → T (implicant n t q) → CheckMarked n t q → (k : ℕ) × (k < n) × T (expands n t q k)
   checked-expands q l h c =
       let g = c .combination in
       let k = g .position in
@@ -203,7 +238,6 @@ module _ (n : ℕ) (t : List ℕ) where
   -- ---- single asterisk rows
 
   essential-to : (q : ℕ) → q < 3 ^ n → T (essential n t q) → SingleAsterisk n t q
-  unfolding primesOf
   essential-to q l h =
       let e = meanings n t .essential-is q .0 h in
       let s = e .1 in
@@ -212,19 +246,27 @@ module _ (n : ℕ) (t : List ℕ) where
         column = s .0;
         is-column = record { row = s .1; one = s .2 };
         entry = s .3;
-        sole = count-one (prime n t) (cross n (s .0)) (3 ^ n) q l (e .0) (s .3) (s .4);
+        sole = λ p i x. let h = prime-from p i in s .4 p (h .0) (h .1) x;
       }
-
-  -- of the primes only q matches the column of its sole entry
-  pub sole-row : (q : ℕ) (a : SingleAsterisk n t q) (i : ℕ) → i < 3 ^ n → T (prime n t i) → T (cubeMatches n i (a .column)) → i ≡ q
-  unfolding primesOf
-  sole-row q a i l x y =
-      let p = prime-from q (a .row) in count-alone (prime n t) (cross n (a .column)) (3 ^ n) i q (a .sole) l (p .0) x y (p .1) (a .entry)
 
   essential-from : (q : ℕ) → SingleAsterisk n t q → (q < 3 ^ n) × T (essential n t q)
   essential-from q a =
       let p = prime-from q (a .row) in
-      (p .0, meanings n t .essential-is q .1 (p .1, (a .column, a .is-column .row, a .is-column .one, a .entry, sole-row q a)))
+      (p .0, meanings n t .essential-is q .1 (p .1, (a .column, a .is-column .row, a .is-column .one, a .entry, λ i l x y. a .sole i (prime-to i l x) y)))
+
+  -- ---- the crosses of a column
+
+  module _ (c q : ℕ) (i : PrimeImplicant n t q) (m : T (cross n c q)) where
+    sole-counts : ((p : ℕ) → PrimeImplicant n t p → T (cross n c p) → p ≡ q) → crosses n t c ≡ 1
+    unfolding primesOf
+    sole-counts f = let h = prime-from q i in count-one (prime n t) (cross n c) (3 ^ n) q (h .0) (h .1) m (λ p l x y. f p (prime-to p l x) y)
+
+    counts-sole : crosses n t c ≡ 1 → (p : ℕ) → PrimeImplicant n t p → T (cross n c p) → p ≡ q
+    unfolding primesOf
+    counts-sole e p j y =
+        let h = prime-from q i in
+        let k = prime-from p j in
+        count-alone (prime n t) (cross n c) (3 ^ n) p q e (k .0) (h .0) (k .1) y (h .1) m
 
   pub agreement : Agreement n t
   unfolding primesOf essentialsOf
@@ -233,6 +275,7 @@ module _ (n : ℕ) (t : List ℕ) where
     characters = λ q. (character-is, λ h. implicant-character q (h .0) (h .1));
     primes = λ q l. (prime-to q l, λ p. prime-from q p .1);
     essentials = λ q l. (essential-to q l, λ a. essential-from q a .1);
-    rows = those-lists (3 ^ n) (prime n t) (PrimeImplicant n t) prime-to prime-from;
-    single-asterisks = those-lists (3 ^ n) (essential n t) (SingleAsterisk n t) essential-to essential-from;
+    one-cross = λ c q i m. (sole-counts c q i m, counts-sole c q i m);
+    rows = those-each-once (3 ^ n) (prime n t) (PrimeImplicant n t) prime-to prime-from;
+    single-asterisks = those-each-once (3 ^ n) (essential n t) (SingleAsterisk n t) essential-to essential-from;
   }

@@ -12,11 +12,11 @@ use lib.ListN.{length, length-append}
 use Rattle.numbers.specs.Below.{some}
 use Rattle.cube.specs.Words.{onSet, offSet, Row, Cover, rowMatches, formed, eachRow, allFormed, coverMatches, coverLiterals, implements, rowOf, numberOf, implicant, wider, prime}
 use Rattle.cube.specs.Minimum.{NoBetter, Minimum, EquivalentSum, MinimumSum, Shortest}
-use Rattle.cube.proofs.Bools.{and-l, and-r, and-i, or-e, or-l, or-r, holds}
-use Rattle.cube.proofs.Below.{some-at}
+use Rattle.numbers.proofs.Bools.{and-l, and-r, and-i, or-e, or-l, or-r, holds}
+use Rattle.numbers.proofs.Below.{some-at}
 use Rattle.cube.proofs.Digits.{contained-matches}
 use Rattle.cube.proofs.Implicants.{implicant-at, wider-implicant, wider-fewer, wider-contains}
-use Rattle.cube.proofs.Rows.{row-is-cube, row-literals, row-formed, row-of-matches, row-of-literals}
+use Rattle.cube.proofs.Rows.{one-to-one, row-of-matches, row-of-literals}
 use Rattle.cube.proofs.Theorems.{implements-on, implements-off, implements-by}
 use Rattle.cube.proofs.Independent.{sound, rows-sound}
 use Rattle.cube.proofs.Covers.{each-append, matches-append, literals-append, code-by-code}
@@ -59,7 +59,7 @@ module _ (n : ℕ) (t : List ℕ) where
     rival-formed =
         subst⁻¹ T (each-append (formed n) before (rowOf n p ∷ after))
         (and-i (allFormed n before) (allFormed n (rowOf n p ∷ after)) (others-formed .0)
-        (and-i (formed n (rowOf n p)) (allFormed n after) (row-formed n p) (others-formed .1)))
+        (and-i (formed n (rowOf n p)) (allFormed n after) (one-to-one n .row-formed p) (others-formed .1)))
 
     -- what one of the three parts matches
     split : (x : Row) (c : ℕ) → T (coverMatches (before ++ (x ∷ after)) c) → T (coverMatches before c) ⊎ (T (rowMatches x c) ⊎ T (coverMatches after c))
@@ -80,7 +80,7 @@ module _ (n : ℕ) (t : List ℕ) where
     row-wider : (c : ℕ) → T (rowMatches r c) → T (rowMatches (rowOf n p) c)
     row-wider c h =
         subst⁻¹ T (row-of-matches n p c l)
-        (contained-matches n (numberOf n r) p c (wider-contains n t (numberOf n r) p w) (subst T (row-is-cube n r its-form c) h))
+        (contained-matches n (numberOf n r) p c (wider-contains n t (numberOf n r) p w) (subst T (one-to-one n .same-codes r its-form c) h))
 
     rival-right : T (implements n t rival)
     unfolding rival
@@ -108,7 +108,7 @@ module _ (n : ℕ) (t : List ℕ) where
           literals-append n before (r ∷ after),
           literals-append n before (rowOf n p ∷ after),
           row-of-literals n p l,
-          row-literals n (r .value) (r .care),
+          one-to-one n .same-literals r,
           wider-fewer n t (numberOf n r) p w,
         ))
         (m .least rival rival-formed rival-right)

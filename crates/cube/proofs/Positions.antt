@@ -10,8 +10,8 @@ use lib.ListN.{length}
 use Rattle.numbers.specs.Below.{flag, those}
 use Rattle.cube.specs.Words.{ones, fits, tested, digit, cubeMatches, cubeLiterals, valueOf, careOf}
 use Rattle.cube.specs.Theorems.{bitOfVariable, digitOfVariable, Variable, Positions}
-use Rattle.cube.proofs.Below.{count-none, count-suc, those-same}
-use Rattle.cube.proofs.Digits.{bit, digit-weight, bit-weight, bit-lt, flag-lt, last-bit, rest-bits, matches-last, matches-rest, matches-by}
+use Rattle.numbers.proofs.Below.{count-none, count-suc, those-same, flag-lt}
+use Rattle.cube.proofs.Digits.{bit, digit-weight, bit-weight, bit-lt, last-bit, rest-bits, matches-last, matches-rest, matches-by}
 
 -- ---- by places counted from the last
 

@@ -1,5 +1,5 @@
--- Formed rows and cubes correspond one to one: the cube of a row matches the same codes with as many literals, and the row of a cube is formed
--- and spells that cube. Each law goes bit by bit, from the last variable on. Assumes nothing.
+-- Formed rows and cubes correspond one to one, the theorem `OneToOne` of `specs/Theorems.antt`: the cube of a row matches the same codes with as many
+-- literals, and the row of a cube is formed and spells that cube. Each law goes bit by bit, from the last variable on. Assumes nothing.
 use mathlib.Core.Path.{_≡_, refl, sym, ap, ap₂, _∙_, subst, subst⁻¹}
 use mathlib.Core.Logic.{⊎-elim}
 use mathlib.Core.Bool.{Bool, true, false, cond, _&&_}
@@ -10,8 +10,10 @@ use lib.Dec.{T, eqb, ltb, eqb→eq, ltb→lt, lt→ltb, lit<}
 use lib.Bits.{bitAnd, and-step, and-zero-r}
 use Rattle.numbers.specs.Below.{flag}
 use Rattle.cube.specs.Words.{Row, rowMatches, formed, ones, rowLiterals, fits, tested, cubeMatches, cubeLiterals, valueOf, careOf, rowOf, digitOf, cubeOf, numberOf}
-use Rattle.cube.proofs.Bools.{and-l, and-r, and-i, same, fits-e, fits-same, eqb-of}
-use Rattle.cube.proofs.Digits.{last-lt, bit-lt, flag-lt, is-tested, last-digit, rest-digits, last-bit, rest-bits, matches-at, literals-at}
+use Rattle.cube.specs.Theorems.{OneToOne}
+use Rattle.numbers.proofs.Bools.{and-l, and-r, and-i, same, eqb-of}
+use Rattle.cube.proofs.Digits.{last-lt, bit-lt, is-tested, last-digit, rest-digits, last-bit, rest-bits, matches-at, literals-at, fits-e, fits-same}
+use Rattle.numbers.proofs.Below.{flag-lt}
 use Rattle.cube.proofs.Spelling.{care-lt}
 
 digit-of-lt : (v w : ℕ) → v < 2 → digitOf v w < 3
@@ -27,13 +29,13 @@ cube-lt zero v w = lit< tt
 cube-lt (suc n) v w = omega (arith, pow-suc 3 n, cube-lt n (v / 2) (w / 2), digit-of-lt (v % 2) (w % 2) (bit-lt v))
 
 -- what formed says
-pub record Formed (n v w : ℕ) : Type 0 where
-  pub care : w < 2 ^ n
-  pub inside : bitAnd v w ≡ v
+record Formed (n v w : ℕ) : Type 0 where
+  care : w < 2 ^ n
+  inside : bitAnd v w ≡ v
 
-pub is-formed : (n : ℕ) (r : Row) → T (formed n r) → Formed n (r .value) (r .care)
+formed-means : (n : ℕ) (r : Row) → T (formed n r) → Formed n (r .value) (r .care)
 unfolding formed
-is-formed n r h =
+formed-means n r h =
     let below : Bool = ltb (r .care) (2 ^ n) in
     let kept : Bool = eqb (bitAnd (r .value) (r .care)) (r .value) in
     record { care = ltb→lt _ _ (and-l below kept h); inside = eqb→eq _ _ (and-r below kept h) }
@@ -58,7 +60,7 @@ fits-bit v zero c a b l t = omega arith
 fits-bit v (suc zero) c a b l t = ⊎-elim (λ e. absurd (omega arith)) (λ e. omega arith) (fits-e v c t)
 fits-bit v (suc (suc w)) c a b l t = absurd (omega arith)
 
--- the cube of a row of one variable more
+-- the cube of a row with one variable more
 module _ (n v w : ℕ) where
   rest-cube : ℕ
   rest-cube = cubeOf n (v / 2) (w / 2)
@@ -94,8 +96,8 @@ pub row-is-cube : (n : ℕ) (r : Row) → T (formed n r) → (c : ℕ) → rowMa
 unfolding rowMatches
 row-is-cube n r f c =
     same (eqb (bitAnd c (r .care)) (r .value)) (cubeMatches n (numberOf n r) c)
-    (λ h. row-to n (r .value) (r .care) c (is-formed n r f) (eqb→eq _ _ h))
-    (λ h. eqb-of _ _ (row-from n (r .value) (r .care) c (is-formed n r f) h))
+    (λ h. row-to n (r .value) (r .care) c (formed-means n r f) (eqb→eq _ _ h))
+    (λ h. eqb-of _ _ (row-from n (r .value) (r .care) c (formed-means n r f) h))
 
 -- the digit of a bit is tested exactly where care has a one
 digit-care : (v w : ℕ) → v < 2 → w < 2 → flag (tested (digitOf v w)) ≡ w
@@ -150,7 +152,7 @@ care-back (suc n) v w f =
 
 pub row-back : (n : ℕ) (r : Row) → T (formed n r) → rowOf n (numberOf n r) ≡ r
 row-back n r f =
-    ap₂ (λ (v w : ℕ). record { value = v; care = w }) (value-back n (r .value) (r .care) (is-formed n r f)) (care-back n (r .value) (r .care) (is-formed n r f))
+    ap₂ (λ (v w : ℕ). record { value = v; care = w }) (value-back n (r .value) (r .care) (formed-means n r f)) (care-back n (r .value) (r .care) (formed-means n r f))
 
 -- ---- from a cube to its row
 
@@ -209,8 +211,22 @@ number-of-row (suc n) q l =
     (ap₂ digitOf (value-last n q) (care-last n q) ∙ spells-digit (q % 3) (last-lt q))
     ∙ omega arith
 
+-- ---- both ways
+
+pub one-to-one : (n : ℕ) → OneToOne n
+one-to-one n = record {
+  row-formed = row-formed n;
+  number-below = λ r. cube-lt n (r .value) (r .care);
+  there = number-of-row n;
+  back = row-back n;
+  same-codes = row-is-cube n;
+  same-literals = λ r. row-literals n (r .value) (r .care);
+}
+
+-- so the row of a cube matches what the cube matches, with as many literals
 pub row-of-matches : (n q c : ℕ) → q < 3 ^ n → rowMatches (rowOf n q) c ≡ cubeMatches n q c
-row-of-matches n q c l = row-is-cube n (rowOf n q) (row-formed n q) c ∙ ap (λ (p : ℕ). cubeMatches n p c) (number-of-row n q l)
+row-of-matches n q c l =
+    let o = one-to-one n in o .same-codes (rowOf n q) (o .row-formed q) c ∙ ap (λ (p : ℕ). cubeMatches n p c) (o .there q l)
 
 pub row-of-literals : (n q : ℕ) → q < 3 ^ n → rowLiterals n (rowOf n q) ≡ cubeLiterals n q
-row-of-literals n q l = sym (row-literals n (valueOf n q) (careOf n q)) ∙ ap (cubeLiterals n) (number-of-row n q l)
+row-of-literals n q l = let o = one-to-one n in sym (o .same-literals (rowOf n q)) ∙ ap (cubeLiterals n) (o .there q l)

@@ -9,7 +9,8 @@ use lib.Dec.{eqb, lit<}
 use lib.Pow.{mod-pow-add}
 use Rattle.numbers.specs.Below.{flag}
 use Rattle.cube.specs.Words.{tested, valueOf, careOf}
-use Rattle.cube.proofs.Digits.{flag-lt, code-more, last-bit, rest-bits}
+use Rattle.cube.proofs.Digits.{code-more, last-bit, rest-bits}
+use Rattle.numbers.proofs.Below.{flag-lt}
 
 pub care-lt : (n q : ℕ) → careOf n q < 2 ^ n
 unfolding careOf

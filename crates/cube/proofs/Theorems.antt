@@ -1,39 +1,18 @@
--- The theorems of `specs/Theorems.antt`: the tests of the words as sentences, the one-to-one correspondence, and the cube with every digit 2.
--- The position forms stand in `Positions`. Assumes nothing.
-use mathlib.Core.Path.{_≡_, subst⁻¹}
+-- The tests of the words as sentences: the theorem `Meanings` of `specs/Theorems.antt`. Each test runs over all codes or all cubes, and its sentence
+-- says what that tells of each one. Assumes nothing.
+use mathlib.Core.Path.{_≡_}
 use mathlib.Core.Logic.{⊎-elim}
 use mathlib.Core.Bool.{Bool, not, _&&_, _||_}
 use mathlib.Core.List.{List}
-use Prim.Native.Nat.{ℕ, zero, suc, _+_, _*_, _-_, _^_, _/_, _<_}
-use native.Mathlib.Nat.{pow-suc, one-le-pow}
-use native.Mathlib.Omega.{arith}
-use lib.Dec.{T, eqb, ltb, eqb→eq, lit<, lt→ltb}
+use Prim.Native.Nat.{ℕ, _^_, _<_}
+use lib.Dec.{T, eqb, ltb, eqb→eq, lt→ltb}
 use Rattle.numbers.specs.Below.{some}
 use Rattle.cube.specs.Words.{onSet, offSet, Cover, coverMatches, asked, implements, cubeMatches, cubeLiterals, implicant, within, wider, prime, alone, essential}
-use Rattle.cube.specs.Theorems.{OneToOne, EveryDigitTwo, Meanings}
-use Rattle.cube.proofs.Bools.{and-l, and-r, and-i, imp-e, imp-i, nand-e, nand-i, not-e, not-i, eqb-of, eq-or-ne}
-use Rattle.cube.proofs.Below.{every-at, every-by, some-at, some-by, none-at, none-by}
-use Rattle.cube.proofs.Digits.{matches-at, matches-contained}
+use Rattle.cube.specs.Theorems.{Meanings}
+use Rattle.numbers.proofs.Bools.{and-l, and-r, and-i, imp-e, imp-i, nand-e, nand-i, not-e, not-i, eqb-of, eq-or-ne}
+use Rattle.numbers.proofs.Below.{every-at, every-by, some-at, some-by, none-at, none-by}
+use Rattle.cube.proofs.Digits.{matches-contained}
 use Rattle.cube.proofs.Implicants.{implicant-at, implicant-by, within-at, contained-within, wider-implicant, wider-fewer, wider-contains, prime-implicant}
-use Rattle.cube.proofs.Rows.{cube-lt, row-formed, number-of-row, row-back, row-is-cube, row-literals}
-
-pub one-to-one : (n : ℕ) → OneToOne n
-one-to-one n = record {
-  row-formed = row-formed n;
-  number-below = λ r. cube-lt n (r .value) (r .care);
-  there = number-of-row n;
-  back = row-back n;
-  same-codes = row-is-cube n;
-  same-literals = λ r. row-literals n (r .value) (r .care);
-}
-
--- the number with every digit 2 is 3^n - 1; its last digit is 2, and the rest is 3^(n-1) - 1
-pub every-digit-two : (n : ℕ) → EveryDigitTwo n
-unfolding cubeMatches
-every-digit-two zero c = tt
-every-digit-two (suc n) c =
-    let e : 3 ^ suc n - 1 ≡ (3 ^ n - 1) * 3 + 2 = omega (arith, pow-suc 3 n, one-le-pow n 3 (lit< tt)) in
-    subst⁻¹ (λ (q : ℕ). T (cubeMatches (suc n) q c)) e (subst⁻¹ T (matches-at n (3 ^ n - 1) 2 (lit< tt) c) (every-digit-two n (c / 2)))
 
 module _ (n : ℕ) (t : List ℕ) where
   module _ (rs : Cover) where

@@ -22,7 +22,7 @@ pub record Case : Type 0 where
 unfoldable pub tableOf : Case → List ℕ
 tableOf k = run (2 ^ k .width) 0 (λ c. cond (among c (k .wanted)) 1 (cond (among c (k .free)) 2 0))
 
--- the case has so many primes and essentials, and its shortest lists, among all lists, have so many rows and tested bits
+-- the case has this many primes and essentials, and its shortest lists, among all lists, have this many rows and tested bits
 pub record Holds (k : Case) : Type 0 where
   pub primes : length (primesOf (k .width) (tableOf k)) ≡ k .primes
   pub essentials : length (essentialsOf (k .width) (tableOf k)) ≡ k .essentials

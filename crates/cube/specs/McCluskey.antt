@@ -1,17 +1,18 @@
 -- Document 000 (McCluskey 1956) in its own words: binary characters and how they combine (section 3), the prime implicant table (section 4) and
--- d-terms (section 10). Then the theorems that its prime implicants and single asterisk rows are document 01's primes and essentials, and that
--- its basis rows are the rows of the shortest lists.
+-- d-terms (section 10). Then the theorems that its p-terms and d-terms are document 01's wanted and free codes, its prime implicants and single
+-- asterisk rows the primes and essentials, and its basis rows the rows of the shortest lists.
 -- A binary character of n positions is a cube number, below 3^n, and digit k stands at the position of weight 2^k.
 -- `proofs/McCluskey.antt` and `proofs/Basis.antt` prove the theorems. Assumes nothing.
 use mathlib.Core.Path.{_≡_}
 use mathlib.Core.Logic.{_↔_}
-use mathlib.Core.Bool.{Bool, not}
+use mathlib.Core.Bool.{Bool, false, not, _||_}
 use mathlib.Core.List.{List, map}
-use Prim.Native.Nat.{ℕ, _^_, _/_, _%_, _<_, _≤_}
+use Prim.Native.Nat.{ℕ, _+_, _^_, _/_, _%_, _<_, _≤_}
 use lib.Dec.{T}
 use lib.ListN.{length}
-use Rattle.numbers.specs.Below.{count, among, Lists}
-use Rattle.cube.specs.Words.{onSet, offSet, Cover, coverLiterals, digit, cubeMatches, rowOf, numberOf, implicant, prime, essential, primesOf, essentialsOf}
+use Rattle.numbers.specs.Below.{flag, count, among, EachOnce}
+use Rattle.cube.specs.Words.{onSet, offSet, dontCare, Cover, coverLiterals, digit, cubeMatches, rowOf, numberOf, implicant, prime, essential, primesOf, essentialsOf}
+use Rattle.cube.specs.Calls.{badCell}
 use Rattle.cube.specs.Minimum.{Minimum, FewestTerms}
 
 -- ---- section 3: prime implicants
@@ -26,9 +27,10 @@ pub record BinaryEquivalent (n c q : ℕ) : Type 0 where
   pub below : q < 3 ^ n
   pub digits : (k : ℕ) → k < n → digit k q ≡ c / 2 ^ k % 2
 
--- section 10: "These d-terms should be included in the list of p-terms which are used to form the prime implicants.": all but the barred codes
-abbrev pub listed : List ℕ → ℕ → Bool
-listed t c = not (offSet t c)
+-- section 10: "These d-terms should be included in the list of p-terms which are used to form the prime implicants.": all but the barred codes,
+-- and that these are the p-terms with the d-terms is `Terms` below
+abbrev pub isTerm : List ℕ → ℕ → Bool
+isTerm t c = not (offSet t c)
 
 -- "identical in all positions except one"
 abbrev pub IdenticalExcept : ℕ → ℕ → ℕ → ℕ → Type 0
@@ -52,11 +54,11 @@ pub record Combination (n a b r : ℕ) : Type 0 where
 
 -- "This procedure is repeated and new columns are formed, Table II(d), until no further combinations are possible.": a character of any column
 pub data Character (n : ℕ) (t : List ℕ) : ℕ → Type 0 where
-  p-term : {c q : ℕ} → T (listed t c) → BinaryEquivalent n c q → Character n t q
+  p-term : {c q : ℕ} → T (isTerm t c) → BinaryEquivalent n c q → Character n t q
   combined : {a b r : ℕ} → Character n t a → Character n t b → Combination n a b r → Character n t r
 
 -- "A check mark is placed next to each number which is used in forming a new character."
-pub record Checked (n : ℕ) (t : List ℕ) (q : ℕ) : Type 0 where
+pub record CheckMarked (n : ℕ) (t : List ℕ) (q : ℕ) : Type 0 where
   pub other : ℕ
   pub other-character : Character n t other
   pub new : ℕ
@@ -65,7 +67,7 @@ pub record Checked (n : ℕ) (t : List ℕ) (q : ℕ) : Type 0 where
 -- "The unchecked characters, which have not entered into any combinations, represent the prime implicants."
 pub record PrimeImplicant (n : ℕ) (t : List ℕ) (q : ℕ) : Type 0 where
   pub character : Character n t q
-  pub unchecked : Checked n t q → ⊥
+  pub unchecked : CheckMarked n t q → ⊥
 
 -- ---- section 4: prime implicant tables
 
@@ -83,17 +85,17 @@ pub record Column (n : ℕ) (t : List ℕ) (c : ℕ) : Type 0 where
 abbrev pub cross : ℕ → ℕ → ℕ → Bool
 cross n c q = cubeMatches n q c
 
--- the crosses of a column
-abbrev pub crosses : ℕ → List ℕ → ℕ → ℕ
-crosses n t c = count (cross n c) (tableRows n t)
-
 -- "place an asterisk next to each row which contains the sole entry of any column"
 pub record SingleAsterisk (n : ℕ) (t : List ℕ) (q : ℕ) : Type 0 where
   pub row : PrimeImplicant n t q
   pub column : ℕ
   pub is-column : Column n t column
   pub entry : T (cross n column q)
-  pub sole : crosses n t column ≡ 1
+  pub sole : (p : ℕ) → PrimeImplicant n t p → T (cross n column p) → p ≡ q
+
+-- how many crosses a column has
+abbrev pub crosses : ℕ → List ℕ → ℕ → ℕ
+crosses n t c = count (cross n c) (tableRows n t)
 
 -- "selecting [..] rows such that each column has a cross in at least one selected row"
 pub record Selection (n : ℕ) (t selected : List ℕ) : Type 0 where
@@ -112,6 +114,14 @@ sumOf n selected = map (rowOf n) selected
 
 -- ---- documents 000 and 01 agree, whatever the width and the table
 
+-- on the terms of a table that has no cell above 2
+pub record Terms (t : List ℕ) : Type 0 where
+  -- section 10: "The p-terms which correspond to d-entries in the table of combinations will be called d-terms.": the list is the p-terms of the wanted
+  -- codes with the d-terms, which are the free codes
+  pub p-terms-and-d-terms : badCell t ≡ false → (c : ℕ) → isTerm t c ≡ (onSet t c || dontCare t c)
+  -- the entry of each row is 0, 1 or d: a code is either barred or wanted or free
+  pub one-entry : badCell t ≡ false → (c : ℕ) → flag (offSet t c) + flag (onSet t c) + flag (dontCare t c) ≡ 1
+
 -- on prime implicants and essential ones
 pub record Agreement (n : ℕ) (t : List ℕ) : Type 0 where
   -- it does not matter which of the two characters is named first
@@ -122,9 +132,11 @@ pub record Agreement (n : ℕ) (t : List ℕ) : Type 0 where
   pub primes : (q : ℕ) → q < 3 ^ n → T (prime n t q) ↔ PrimeImplicant n t q
   -- "and the essential ones exactly his"
   pub essentials : (q : ℕ) → q < 3 ^ n → T (essential n t q) ↔ SingleAsterisk n t q
+  -- a row with a cross in a column has the sole entry there exactly when the column has one cross
+  pub one-cross : (c q : ℕ) → PrimeImplicant n t q → T (cross n c q) → ((p : ℕ) → PrimeImplicant n t p → T (cross n c p) → p ≡ q) ↔ (crosses n t c ≡ 1)
   -- so the primes listed are the rows of his table, and the essentials listed its single asterisk rows
-  pub rows : Lists (tableRows n t) (PrimeImplicant n t)
-  pub single-asterisks : Lists (essentialsOf n t) (SingleAsterisk n t)
+  pub rows : EachOnce (tableRows n t) (PrimeImplicant n t)
+  pub single-asterisks : EachOnce (essentialsOf n t) (SingleAsterisk n t)
 
 -- on basis rows: they belong to the shortest lists
 pub record Basis (n : ℕ) (t : List ℕ) : Type 0 where

@@ -1,4 +1,4 @@
--- Demand 3: which lists are shortest; and the minimum sums of document 000, which they are. Assumes nothing.
+-- Demand 3: which lists are shortest; and the minimum sums of document 000, which are the same lists. Assumes nothing.
 use mathlib.Core.Path.{_≡_}
 use mathlib.Core.Logic.{_⊎_, _↔_}
 use mathlib.Core.List.{List}
@@ -40,7 +40,7 @@ pub record MinimumSum (n : ℕ) (t : List ℕ) (terms : Cover) : Type 0 where
 
 -- ---- what follows
 
--- of every shortest list of a table, whatever the width and the table
+-- for every shortest list of a table, whatever the width and the table
 pub record Shortest (n : ℕ) (t : List ℕ) : Type 0 where
   -- any two have the same counts
   pub counts : (a b : Cover) → Minimum n t a → Minimum n t b → (length a ≡ length b) × (coverLiterals n a ≡ coverLiterals n b)

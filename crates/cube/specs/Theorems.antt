@@ -1,5 +1,6 @@
--- What is proved of the words, as statements over any width: the position forms, the one-to-one correspondence of rows and cubes, and what
--- each test of `Words` says as a sentence. `proofs/Theorems.antt` proves them. Assumes nothing.
+-- What is proved of the words, as statements over any width: the position forms, the one-to-one correspondence of rows and cubes, the cube with
+-- every digit 2, and what each test of `Words` says as a sentence. Proved, in this order, by `Positions`, `Rows`, `AllTwos` and `Theorems` of
+-- `proofs/`. Assumes nothing.
 use mathlib.Core.Path.{_≡_}
 use mathlib.Core.Logic.{_↔_}
 use mathlib.Core.List.{List}
@@ -44,8 +45,9 @@ pub record OneToOne (n : ℕ) : Type 0 where
   pub same-literals : (r : Row) → cubeLiterals n (numberOf n r) ≡ rowLiterals n r
 
 -- "004 leaves out the number with every digit 2; here it is a cube and matches every code."
-abbrev pub EveryDigitTwo : ℕ → Type 0
-EveryDigitTwo n = (c : ℕ) → T (cubeMatches n (3 ^ n - 1) c)
+pub record EveryDigitTwo (n : ℕ) : Type 0 where
+  pub digits : (k : ℕ) → k < n → digit k (3 ^ n - 1) ≡ 2
+  pub matches : (c : ℕ) → T (cubeMatches n (3 ^ n - 1) c)
 
 -- the tests as sentences
 pub record Meanings (n : ℕ) (t : List ℕ) : Type 0 where

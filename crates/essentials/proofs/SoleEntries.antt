@@ -16,14 +16,14 @@ use borrow.Author.Tests.{le-leb, eq-eqb, ne-eqb}
 use Rattle.numbers.specs.Below.{flag}
 use Rattle.cube.specs.Words.{onSet, cubeMatches, prime, essential, primesOf}
 use Rattle.cube.specs.McCluskey as mccluskey
-use Rattle.cube.proofs.Bools.{and-l, and-r, and-i, not-e, not-i, same, is-true, holds, eqb-of}
-use Rattle.cube.proofs.Below.{count-none, count-suc, count-those, those-same}
+use Rattle.numbers.proofs.Bools.{and-l, and-r, and-i, not-e, not-i, same, is-true, holds, eqb-of}
+use Rattle.numbers.proofs.Below.{count-none, count-suc, count-those, those-same}
 use Rattle.cube.proofs.McCluskey.{agreement}
 use Rattle.matrix.specs.Sets.{has, In}
 use Rattle.matrix.proofs.Bits.{has-and, has-zero, lowest-in}
-use Rattle.chart.specs.Columns.{column, columnsOf}
-use Rattle.chart.proofs.Words.{word-lt, has-word}
-use Rattle.essentials.specs.Essentials.{PrimeWords, crosses, Seen, SoleColumns}
+use Rattle.chart_arrays.specs.Columns.{column, columnsOf}
+use Rattle.chart_arrays.proofs.Columns.{word-lt, has-word}
+use Rattle.essentials.specs.Essentials.{PrimeWords, entries, Seen, SoleColumns}
 
 -- ---- once and twice
 
@@ -54,23 +54,23 @@ seen-none words = record {
 }
 
 module _ (words : List ℕ) (m word once twice once′ twice′ : ℕ) (is : getD words m 0 ≡ word) (s : Seen words m once twice) where
-  crosses-more : (c : ℕ) → crosses words (m + 1) c ≡ crosses words m c + flag (has word c)
-  crosses-more c =
-      ap (λ (i : ℕ). crosses words i c) (add-one m) ∙ count-suc (λ q. has (getD words q 0) c) m
-      ∙ ap (λ (x : ℕ). crosses words m c + flag (has x c)) is
+  entries-more : (c : ℕ) → entries words (m + 1) c ≡ entries words m c + flag (has word c)
+  entries-more c =
+      ap (λ (i : ℕ). entries words i c) (add-one m) ∙ count-suc (λ q. has (getD words q 0) c) m
+      ∙ ap (λ (x : ℕ). entries words m c + flag (has x c)) is
 
   pub seen-more : ((c : ℕ) → has once′ c ≡ (has once c || has word c)) → ((c : ℕ) → has twice′ c ≡ (has twice c || (has once c && has word c)))
       → Seen words (m + 1) once′ twice′
   seen-more f g = record {
-    one = λ c. f c ∙ ap (λ (x : Bool). x || has word c) (s .one c) ∙ one-more (crosses words m c) (has word c) ∙ sym (ap (leb 1) (crosses-more c));
+    one = λ c. f c ∙ ap (λ (x : Bool). x || has word c) (s .one c) ∙ one-more (entries words m c) (has word c) ∙ sym (ap (leb 1) (entries-more c));
     two = λ c.
-        g c ∙ ap₂ (λ (x y : Bool). x || (y && has word c)) (s .two c) (s .one c) ∙ two-more (crosses words m c) (has word c)
-        ∙ sym (ap (leb 2) (crosses-more c));
+        g c ∙ ap₂ (λ (x y : Bool). x || (y && has word c)) (s .two c) (s .one c) ∙ two-more (entries words m c) (has word c)
+        ∙ sym (ap (leb 2) (entries-more c));
   }
 
 pub sole-of : (words : List ℕ) (m once twice sole : ℕ) → Seen words m once twice → ((c : ℕ) → has sole c ≡ (has once c && not (has twice c)))
     → SoleColumns words m sole
-sole-of words m once twice sole s f c = f c ∙ ap₂ (λ (x y : Bool). x && not y) (s .one c) (s .two c) ∙ just-one (crosses words m c)
+sole-of words m once twice sole s f c = f c ∙ ap₂ (λ (x y : Bool). x && not y) (s .one c) (s .two c) ∙ just-one (entries words m c)
 
 -- ---- a prime with a sole entry is essential
 
@@ -82,7 +82,7 @@ no-column : (x c : ℕ) → In x c → x ≡ 0 → ⊥
 no-column x c h e = false≢true (sym (has-zero c) ∙ sym (ap (λ (i : ℕ). has i c) e) ∙ h)
 
 module _ (n : ℕ) (t words : List ℕ) (sole : ℕ) (p : PrimeWords n t words (3 ^ n)) (s : SoleColumns words (3 ^ n) sole) where
-  -- the entries of the words are the crosses of the table, in a wanted code
+  -- the entries of the words are the entries of the table, in a wanted code
   has-prime : (q c : ℕ) → q < 3 ^ n → has (getD words q 0) c ≡ (prime n t q && (ltb c (2 ^ n) && column n t q c))
   has-prime q c l = ap (λ (x : ℕ). has x c) (p q l) ∙ go (prime n t q)
     where
@@ -95,9 +95,9 @@ module _ (n : ℕ) (t words : List ℕ) (sole : ℕ) (p : PrimeWords n t words (
       has-prime q c k
       ∙ ap₂ (λ (x y : Bool). prime n t q && (x && (y && cubeMatches n q c))) (is-true (ltb c (2 ^ n)) (lt→ltb c (2 ^ n) l)) (is-true (onSet t c) w)
 
-  crosses-are : (c : ℕ) → c < 2 ^ n → T (onSet t c) → crosses words (3 ^ n) c ≡ mccluskey.crosses n t c
+  entries-are : (c : ℕ) → c < 2 ^ n → T (onSet t c) → entries words (3 ^ n) c ≡ mccluskey.crosses n t c
   unfolding primesOf
-  crosses-are c l w =
+  entries-are c l w =
       ap length (those-same (3 ^ n) (λ q. has (getD words q 0) c) (λ q. prime n t q && cubeMatches n q c) (λ q k. at-column c q l w k))
       ∙ sym (count-those (prime n t) (λ q. cubeMatches n q c) (3 ^ n))
 
@@ -126,13 +126,14 @@ module _ (n : ℕ) (t words : List ℕ) (sole : ℕ) (p : PrimeWords n t words (
             let below : c < 2 ^ n = ltb→lt c (2 ^ n) (and-l (ltb c (2 ^ n)) (column n t q c) inside) in
             let wanted = and-l (onSet t c) (cubeMatches n q c) (and-r (ltb c (2 ^ n)) (column n t q c) inside) in
             let matched = and-r (onSet t c) (cubeMatches n q c) (and-r (ltb c (2 ^ n)) (column n t q c) inside) in
-            let one = eqb→eq (crosses words (3 ^ n) c) 1 (holds (eqb (crosses words (3 ^ n) c) 1) (sym (s c) ∙ is-true (has sole c) (and-r (has (getD words q 0) c) (has sole c) both))) in
+            let one = eqb→eq (entries words (3 ^ n) c) 1 (holds (eqb (entries words (3 ^ n) c) 1) (sym (s c) ∙ is-true (has sole c) (and-r (has (getD words q 0) c) (has sole c) both))) in
+            let row = agreement n t .primes q l .0 (and-l (prime n t q) (ltb c (2 ^ n) && column n t q c) entry) in
             agreement n t .essentials q l .1 (record {
-              row = agreement n t .primes q l .0 (and-l (prime n t q) (ltb c (2 ^ n) && column n t q c) entry);
+              row = row;
               column = c;
               is-column = record { row = below; one = wanted };
               entry = matched;
-              sole = sym (crosses-are c below wanted) ∙ one;
+              sole = agreement n t .one-cross c q row matched .1 (sym (entries-are c below wanted) ∙ one);
             })
 
     from : T (essential n t q) → T (not (eqb held 0))
@@ -142,7 +143,8 @@ module _ (n : ℕ) (t words : List ℕ) (sole : ℕ) (p : PrimeWords n t words (
         let c = a .column in
         let is-prime = agreement n t .primes q l .1 (a .row) in
         let entry : In (getD words q 0) c = at-column c q (a .is-column .row) (a .is-column .one) l ∙ is-true (prime n t q && cubeMatches n q c) (and-i (prime n t q) (cubeMatches n q c) is-prime (a .entry)) in
-        let alone : In sole c = s c ∙ eq-eqb (crosses words (3 ^ n) c) 1 (crosses-are c (a .is-column .row) (a .is-column .one) ∙ a .sole) in
+        let one = agreement n t .one-cross c q (a .row) (a .entry) .0 (a .sole) in
+        let alone : In sole c = s c ∙ eq-eqb (entries words (3 ^ n) c) 1 (entries-are c (a .is-column .row) (a .is-column .one) ∙ one) in
         not-i (eqb held 0) (λ e. no-column held c (has-and (getD words q 0) sole c ∙ ap₂ _&&_ entry alone) (eqb→eq held 0 e))
 
     pub holder-is-essential : not (eqb (bitAnd (getD words q 0) sole) 0) ≡ essential n t q

@@ -9,21 +9,21 @@ use lib.ListN.{length, getD}
 use Rattle.numbers.specs.Below.{those}
 use Rattle.cube.specs.Words.{prime}
 use Rattle.matrix.specs.Sets.{has}
-use Rattle.chart.specs.Columns.{columnsOf}
+use Rattle.chart_arrays.specs.Columns.{columnsOf}
 
 -- the words of the cubes below m: the columns of a prime, none for another cube
 abbrev pub PrimeWords : ℕ → List ℕ → List ℕ → ℕ → Type 0
 PrimeWords n t words m = (q : ℕ) → q < m → getD words q 0 ≡ cond (prime n t q) (columnsOf n t q) 0
 
--- how many of the first m words have column c: the crosses of the column
-abbrev pub crosses : List ℕ → ℕ → ℕ → ℕ
-crosses words m c = length (those m (λ q. has (getD words q 0) c))
+-- how many of the first m words have column c: the entries of the column
+abbrev pub entries : List ℕ → ℕ → ℕ → ℕ
+entries words m c = length (those m (λ q. has (getD words q 0) c))
 
 -- once and twice hold the columns that at least one, and at least two, of the first m words have
 pub record Seen (words : List ℕ) (m once twice : ℕ) : Type 0 where
-  pub one : (c : ℕ) → has once c ≡ leb 1 (crosses words m c)
-  pub two : (c : ℕ) → has twice c ≡ leb 2 (crosses words m c)
+  pub one : (c : ℕ) → has once c ≡ leb 1 (entries words m c)
+  pub two : (c : ℕ) → has twice c ≡ leb 2 (entries words m c)
 
 -- the columns that one of the first m words alone has
 abbrev pub SoleColumns : List ℕ → ℕ → ℕ → Type 0
-SoleColumns words m sole = (c : ℕ) → has sole c ≡ eqb (crosses words m c) 1
+SoleColumns words m sole = (c : ℕ) → has sole c ≡ eqb (entries words m c) 1

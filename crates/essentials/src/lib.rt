@@ -16,7 +16,7 @@ ghost use lib.Seq.{sets};
 ghost use Rattle.cube.specs.Words.{prime, essential, essentialsOf};
 ghost use Rattle.cube.specs.Calls.{widest, Listed};
 ghost use Rattle.primes.specs.Primes.{primesRefuses, Flagged, Marks, isMarked};
-ghost use Rattle.chart.specs.Columns.{columnsOf};
+ghost use Rattle.chart_arrays.specs.Columns.{columnsOf};
 ghost use Rattle.essentials.specs.Essentials.{PrimeWords, SoleColumns};
 
 // The word of cube q: its columns if it is marked as a prime, else none.
@@ -27,7 +27,7 @@ fn prime_word(n: usize, table: &[u8], marks: &[u8], q: usize) -> u64
     if marks[q] == 0 {
         return 0;
     }
-    chart::columns(n, table, q)
+    chart_arrays::cube_columns(n, table, q)
 }
 
 // The words of all cubes.

@@ -1,17 +1,12 @@
-// Runs the calls of document 01 on its edges and on worked examples, and prints what they answer and leave.
-mod charts;
-mod covers;
-mod cubes;
-mod plans;
+// Runs Primes, Essentials and Plan on the worked examples of the papers, which `tests/examples` lists, and prints what they
+// answer.
+mod documents;
 mod print;
 mod terms;
-mod texts;
 
 fn main() {
-    cubes::run();
-    terms::run();
-    charts::run();
-    plans::run();
-    covers::run();
-    texts::run();
+    documents::document_01();
+    documents::document_000();
+    documents::document_001();
+    documents::documents_002_and_003();
 }

@@ -1,5 +1,4 @@
-// What the examples print: texts, numbers, answers and lent places.
-use cube::Counted;
+// What the examples print: texts and numbers.
 use libc::STDOUT_FILENO;
 
 pub fn text(bytes: &[u8]) {
@@ -14,38 +13,4 @@ pub fn refused(k: u8) {
     text(b"refused ");
     number(k as usize);
     text(b"\n");
-}
-
-pub fn counted(answer: Counted) {
-    match answer {
-        Counted::Count(k) => {
-            text(b"count ");
-            number(k);
-            text(b"\n");
-        }
-        Counted::Refused(k) => refused(k),
-    }
-}
-
-pub fn line_end() {
-    text(b"\n");
-}
-
-pub fn space() {
-    text(b" ");
-}
-
-fn item(x: u8) {
-    space();
-    number(x as usize);
-}
-
-// All bytes of a buffer, those past the count too.
-pub fn bytes(buffer: &[u8]) {
-    let mut i = 0;
-    while i < buffer.len() {
-        item(buffer[i]);
-        i += 1;
-    }
-    line_end();
 }

@@ -11,8 +11,8 @@ use lib.Pow.{pow-mono, pow-lt, pow-pos, pow-add, shl-shr}
 use lib.Bits.{bitAnd, bitOr, bitXor, differ, and-step, or-step, xor-step, and-shr, or-shr, xor-shr, and-mask, and-le-l, and-le-r, xor-lt, xor-add-and}
 use lib.Count.{trailingZeros, under}
 use borrow.Author.Tests.{eq-eqb, ne-eqb}
-use Rattle.covering.proofs.Flags.{clash, kept-of}
-use Rattle.matrix.specs.Sets.{has, In, Next}
+use Rattle.numbers.proofs.Flags.{clash, kept-of}
+use Rattle.matrix.specs.Sets.{wordBits, has, In, Next}
 
 digit : ℕ → ℕ → ℕ
 digit x c = x / 2 ^ c % 2
@@ -105,8 +105,8 @@ has-one d c = go (decLt c d) (decLt d c)
     go (no n) (no m) = let e : c ≡ d = omega arith in
         ap (λ (x : ℕ). eqb (2 ^ d / 2 ^ x % 2) 1) e ∙ ap (λ (x : ℕ). eqb (x % 2) 1) (div-self (pow-pos d)) ∙ sym (eq-eqb c d e)
 
-pub shifted-one : (d : ℕ) → d < 64 → 1 * 2 ^ d % 2 ^ 64 ≡ 2 ^ d
-shifted-one d h = ap (λ (y : ℕ). y % 2 ^ 64) (one-mul (2 ^ d)) ∙ mod-eq-of-lt (pow-lt h)
+pub shifted-one : (d : ℕ) → d < wordBits → 1 * 2 ^ d % 2 ^ wordBits ≡ 2 ^ d
+shifted-one d h = ap (λ (y : ℕ). y % 2 ^ wordBits) (one-mul (2 ^ d)) ∙ mod-eq-of-lt (pow-lt h)
 
 -- ---- a word's columns end at its width
 
@@ -178,7 +178,7 @@ first-lacking d a b l n =
 from-shifted : (x f i : ℕ) → f ≤ i → has (x / 2 ^ f) (i - f) ≡ has x i
 from-shifted x f i l = let e : f + (i - f) ≡ i = omega arith in has-shr x f (i - f) ∙ ap (has x) e
 
-pub next-none : (x f : ℕ) → f ≤ 64 → x / 2 ^ f ≡ 0 → Next (has x) f 64 64
+pub next-none : (x f : ℕ) → f ≤ wordBits → x / 2 ^ f ≡ 0 → Next (has x) f wordBits wordBits
 next-none x f l e = record {
   above = l;
   within = omega arith;
@@ -186,24 +186,24 @@ next-none x f l e = record {
   here = λ h. absurd (omega arith);
 }
 
-pub next-some : (x f : ℕ) → x < 2 ^ 64 → (x / 2 ^ f ≡ 0 → ⊥) → Next (has x) f 64 (f + trailingZeros 64 (x / 2 ^ f))
+pub next-some : (x f : ℕ) → x < 2 ^ wordBits → (x / 2 ^ f ≡ 0 → ⊥) → Next (has x) f wordBits (f + trailingZeros wordBits (x / 2 ^ f))
 next-some x f l n = record {
   above = omega arith;
-  within = let h = in-below x (f + t) 64 l found in omega arith;
-  before = λ i m o. sym (from-shifted x f i m) ∙ before-lowest 64 (x / 2 ^ f) (i - f) (omega arith);
+  within = let h = in-below x (f + t) wordBits l found in omega arith;
+  before = λ i m o. sym (from-shifted x f i m) ∙ before-lowest wordBits (x / 2 ^ f) (i - f) (omega arith);
   here = λ h. found;
 }
   where
     t : ℕ
-    t = trailingZeros 64 (x / 2 ^ f)
+    t = trailingZeros wordBits (x / 2 ^ f)
 
     found : In x (f + t)
-    found = sym (has-shr x f t) ∙ lowest-in 64 (x / 2 ^ f) (omega arith) (lt-of-le-of-lt (div-le-self x (2 ^ f)) l)
+    found = sym (has-shr x f t) ∙ lowest-in wordBits (x / 2 ^ f) (omega arith) (lt-of-le-of-lt (div-le-self x (2 ^ f)) l)
 
 -- the first column of a set that has one
-pub first-in : (x : ℕ) {r : ℕ} → x < 2 ^ 64 → (c : ℕ) × In x c → Next (has x) 0 64 r → In x r
-first-in x {r} l i n = go (decLt r 64)
+pub first-in : (x : ℕ) {r : ℕ} → x < 2 ^ wordBits → (c : ℕ) × In x c → Next (has x) 0 wordBits r → In x r
+first-in x {r} l i n = go (decLt r wordBits)
   where
-    go : Dec (r < 64) → In x r
+    go : Dec (r < wordBits) → In x r
     go (yes h) = n .here h
-    go (no h) = let b = in-below x (i .0) 64 l (i .1) in clash (i .1) (n .before (i .0) (omega arith) (omega (arith, n .within)))
+    go (no h) = let b = in-below x (i .0) wordBits l (i .1) in clash (i .1) (n .before (i .0) (omega arith) (omega (arith, n .within)))

@@ -4,24 +4,24 @@ use mathlib.Core.Bool.{Bool, true}
 use Prim.Native.Nat.{ℕ, suc, _+_, _<_}
 use native.Mathlib.Decide.{ℕ-discrete, decLt}
 use native.Mathlib.Omega.{arith}
-use Rattle.covering.specs.Sum.{pick, sum}
-use Rattle.covering.proofs.Flags.{clash}
-use Rattle.covering.proofs.Sums.{sum-skip, pick-true, pick-false}
+use Rattle.covering.specs.Sum.{ifSet, sum}
+use Rattle.numbers.proofs.Flags.{clash}
+use Rattle.covering.proofs.Sums.{sum-skip, ifSet-true, ifSet-false}
 use Rattle.matrix.specs.Sets.{Next}
 
 module _ (p : ℕ → Bool) {end r : ℕ} where
   -- ---- a sum over the members passed
 
   module _ (f : ℕ → ℕ) where
-    pub sum-first : Next p 0 end r → 0 ≡ sum r (λ i. pick (p i) (f i))
+    pub sum-first : Next p 0 end r → 0 ≡ sum r (λ i. ifSet (p i) (f i))
     unfolding sum
-    sum-first n = sym (sum-skip 0 r (omega arith) (λ i l m. pick-false (f i) (n .before i l m)))
+    sum-first n = sym (sum-skip 0 r (omega arith) (λ i l m. ifSet-false (f i) (n .before i l m)))
 
-    pub sum-turn : (i : ℕ) → p i ≡ true → Next p (i + 1) end r → sum i (λ i. pick (p i) (f i)) + f i ≡ sum r (λ i. pick (p i) (f i))
+    pub sum-turn : (i : ℕ) → p i ≡ true → Next p (i + 1) end r → sum i (λ i. ifSet (p i) (f i)) + f i ≡ sum r (λ i. ifSet (p i) (f i))
     unfolding sum
     sum-turn i h n = sym
-        (sum-skip (suc i) r (omega (arith, n .above)) (λ j l m. pick-false (f j) (n .before j (omega arith) m))
-        ∙ ap (λ (x : ℕ). sum i (λ i. pick (p i) (f i)) + x) (pick-true (f i) h))
+        (sum-skip (suc i) r (omega (arith, n .above)) (λ j l m. ifSet-false (f j) (n .before j (omega arith) m))
+        ∙ ap (λ (x : ℕ). sum i (λ i. ifSet (p i) (f i)) + x) (ifSet-true (f i) h))
 
   -- ---- what holds of each member passed
 

@@ -9,10 +9,10 @@ use native.Mathlib.Omega.{arith}
 use lib.Dec.{eqb}
 use lib.ListN.{length, List·getD-eq-default}
 use borrow.Author.Tests.{eq-eqb, ne-eqb}
-use Rattle.covering.specs.Sum.{pick}
-use Rattle.covering.specs.Cover.{count}
-use Rattle.covering.proofs.Flags.{clash, not-set, kept-of}
-use Rattle.covering.proofs.Sums.{sum-mono, sum-most, sum-with, pick-mono, pick-le}
+use Rattle.covering.specs.Sum.{ifSet}
+use Rattle.covering.specs.Weighted.{setSize}
+use Rattle.numbers.proofs.Flags.{clash, not-set, kept-of}
+use Rattle.covering.proofs.Sums.{sum-mono, sum-most, sum-with, ifSet-mono, ifSet-le}
 use Rattle.matrix.specs.Sets.{has, member, Member}
 use Rattle.matrix.specs.Matrix.{covers}
 use Rattle.matrix.proofs.Bits.{has-zero}
@@ -30,8 +30,8 @@ module _ (s t : List ℕ) (r : ℕ) (e : (j : ℕ) → member t j ≡ (member s 
   left-rest j h n = e j ∙ ap (λ (b : Bool). member s j && not b) (ne-eqb j r n) ∙ ap (λ (b : Bool). b && true) h
 
   -- one row less
-  pub left-count : (n : ℕ) → r < n → Member s r → count n (member s) ≡ 1 + count n (member t)
-  left-count n l h = sum-with n r (λ i. 1) (member t) (member s) l out (λ i. go i (ℕ-discrete i r))
+  pub left-size : (n : ℕ) → r < n → Member s r → setSize n (member s) ≡ 1 + setSize n (member t)
+  left-size n l h = sum-with n r (λ i. 1) (member t) (member s) l out (λ i. go i (ℕ-discrete i r))
     where
       out : member t r ≡ false
       out = not-set (member t r) left-out
@@ -42,11 +42,11 @@ module _ (s t : List ℕ) (r : ℕ) (e : (j : ℕ) → member t j ≡ (member s 
 
 -- ---- how many rows
 
-pub count-fewer : (n : ℕ) (s t : List ℕ) → ((i : ℕ) → Member t i → Member s i) → count n (member t) ≤ count n (member s)
-count-fewer n s t f = sum-mono n (λ i. pick-mono (member t i) (member s i) 1 (f i))
+pub size-fewer : (n : ℕ) (s t : List ℕ) → ((i : ℕ) → Member t i → Member s i) → setSize n (member t) ≤ setSize n (member s)
+size-fewer n s t f = sum-mono n (λ i. ifSet-mono (member t i) (member s i) 1 (f i))
 
-pub count-most : (n : ℕ) (s : List ℕ) → count n (member s) ≤ n
-count-most n s = omega (arith, sum-most n 1 {f = λ i. pick (member s i) 1} (λ i. pick-le (member s i) 1))
+pub size-most : (n : ℕ) (s : List ℕ) → setSize n (member s) ≤ n
+size-most n s = omega (arith, sum-most n 1 {f = λ i. ifSet (member s i) 1} (λ i. ifSet-le (member s i) 1))
 
 -- ---- rows past the last one cover nothing
 

@@ -2,33 +2,63 @@
 use mathlib.Core.Path.{_≡_}
 use mathlib.Core.List.{List}
 use mathlib.Core.Bool.{Bool, true, false}
-use Prim.Native.Nat.{ℕ, _/_, _%_, _^_, _≤_, _<_}
+use Prim.Native.Nat.{ℕ, _*_, _/_, _%_, _^_, _≤_, _<_}
 use lib.Dec.{eqb}
 use lib.ListN.{getD}
 
--- the column c is in the word x: bit c of x is set
-unfoldable pub has : ℕ → ℕ → Bool
+-- the bits of a word
+abbrev pub wordBits : ℕ
+wordBits = 64
+
+-- ---- sets of columns
+
+-- a set of columns is a word
+abbrev pub ColumnSet : Type 0
+ColumnSet = ℕ
+
+-- the columns of a set are below this number
+abbrev pub columnLimit : ℕ
+columnLimit = wordBits
+
+-- the column c is in the set x: bit c of x is set
+unfoldable pub has : ColumnSet → ℕ → Bool
 has x c = eqb (x / 2 ^ c % 2) 1
 
-abbrev pub In : ℕ → ℕ → Type 0
+abbrev pub In : ColumnSet → ℕ → Type 0
 In x c = has x c ≡ true
 
 -- b tells whether a set has no column
-pub record Emptiness (x : ℕ) (b : Bool) : Type 0 where
+pub record Emptiness (x : ColumnSet) (b : Bool) : Type 0 where
   pub none : b ≡ true → (c : ℕ) → In x c → ⊥
   pub some : b ≡ false → (c : ℕ) × In x c
 
 -- b tells whether every column of x is one of y
-pub record Inclusion (x y : ℕ) (b : Bool) : Type 0 where
+pub record Inclusion (x y : ColumnSet) (b : Bool) : Type 0 where
   pub all : b ≡ true → (c : ℕ) → In x c → In y c
   pub some : b ≡ false → (c : ℕ) × In x c × (In y c → ⊥)
 
--- the row i is in the set s: bit i % 64 of word i / 64 is set
-unfoldable pub member : List ℕ → ℕ → Bool
-member s i = has (getD s (i / 64) 0) (i % 64)
+-- ---- sets of rows
 
-abbrev pub Member : List ℕ → ℕ → Type 0
+-- a set of rows is a list of words
+abbrev pub RowSet : Type 0
+RowSet = List ℕ
+
+-- and has this many of them
+abbrev pub rowWords : ℕ
+rowWords = 12
+
+-- the rows of a set are below this number
+abbrev pub rowLimit : ℕ
+rowLimit = rowWords * wordBits
+
+-- the row i is in the set s: bit i % 64 of word i / 64 is set
+unfoldable pub member : RowSet → ℕ → Bool
+member s i = has (getD s (i / wordBits) 0) (i % wordBits)
+
+abbrev pub Member : RowSet → ℕ → Type 0
 Member s i = member s i ≡ true
+
+-- ---- going through a set
 
 -- r is the first number from `from` up to `end` that p holds of, or `end` where it holds of none
 pub record Next (p : ℕ → Bool) (from end r : ℕ) : Type 0 where

@@ -3,47 +3,59 @@ ghost use mathlib.Core.Path.{_≡_};
 ghost use mathlib.Core.Bool.{not, _&&_, _||_};
 ghost use Prim.Native.Nat.{ℕ, _≤_, _<_};
 ghost use lib.Dec.{eqb};
-ghost use Rattle.matrix.specs.Sets.{Emptiness, has, Inclusion, Next};
+ghost use Rattle.matrix.specs.Sets.{columnLimit, has, Emptiness, Inclusion, Next};
+
+// A set of columns.
+pub type Set = u64;
+
+// A set has columns below this number.
+pub const LIMIT: usize = 64;
+
+// No column.
+pub const NONE: Set = 0;
+
+// Every column.
+pub const ALL: Set = u64::MAX;
 
 // Whether a set has the column c.
-pub fn has(set: u64, c: usize) -> bool
-    requires { ⌜ c < 64 ⌝ }
+pub fn has(set: Set, c: usize) -> bool
+    requires { ⌜ c < columnLimit ⌝ }
     ensures { λ r. ⌜ r ≡ has set c ⌝ }
 {
     set >> c & 1 == 1
 }
 
 // Whether a set has no column.
-pub fn is_empty(set: u64) -> bool
+pub fn is_empty(set: Set) -> bool
     ensures { λ r. ⌜ Emptiness set r ⌝ }
 {
-    set == 0
+    set == NONE
 }
 
 // The column c alone.
-pub fn only(c: usize) -> u64
-    requires { ⌜ c < 64 ⌝ }
+pub fn only(c: usize) -> Set
+    requires { ⌜ c < columnLimit ⌝ }
     ensures { λ r. ⌜ ((x : ℕ) → has r x ≡ eqb x c) ⌝ }
 {
     1u64 << c
 }
 
 // The columns of both sets.
-pub fn both(a: u64, b: u64) -> u64
+pub fn both(a: Set, b: Set) -> Set
     ensures { λ r. ⌜ ((x : ℕ) → has r x ≡ (has a x && has b x)) ⌝ }
 {
     a & b
 }
 
 // The columns of either set.
-pub fn either(a: u64, b: u64) -> u64
+pub fn either(a: Set, b: Set) -> Set
     ensures { λ r. ⌜ ((x : ℕ) → has r x ≡ (has a x || has b x)) ⌝ }
 {
     a | b
 }
 
 // The columns of a that b lacks.
-pub fn without(a: u64, b: u64) -> u64
+pub fn without(a: Set, b: Set) -> Set
     ensures { λ r. ⌜ ((x : ℕ) → has r x ≡ (has a x && not (has b x))) ⌝ }
 {
     a ^ (a & b)
@@ -51,12 +63,12 @@ pub fn without(a: u64, b: u64) -> u64
 
 // The columns of some words, and those that two of them have.
 pub struct Coverage {
-    pub once: u64,
-    pub twice: u64,
+    pub once: Set,
+    pub twice: Set,
 }
 
 // One word more.
-pub fn with_word(coverage: Coverage, word: u64) -> Coverage
+pub fn with_word(coverage: Coverage, word: Set) -> Coverage
     ensures once { λ r. ⌜ ((x : ℕ) → has (r .once) x ≡ (has (coverage .once) x || has word x)) ⌝ }
     ensures twice { λ r. ⌜ ((x : ℕ) → has (r .twice) x ≡ (has (coverage .twice) x || has (coverage .once) x && has word x)) ⌝ }
 {
@@ -68,30 +80,30 @@ pub fn with_word(coverage: Coverage, word: u64) -> Coverage
 }
 
 // Whether every column of a is one of b.
-pub fn inside(a: u64, b: u64) -> bool
+pub fn inside(a: Set, b: Set) -> bool
     ensures { λ r. ⌜ Inclusion a b r ⌝ }
 {
     a & b == a
 }
 
 // How many columns a set has.
-pub fn size(set: u64) -> u32
-    ensures { λ r. ⌜ r ≤ 64 ⌝ }
+pub fn size(set: Set) -> u32
+    ensures { λ r. ⌜ r ≤ columnLimit ⌝ }
 {
     u64::count_ones(set)
 }
 
-// The first column of a set from `from` on, or 64 where there is none.
-pub fn next(set: u64, from: usize) -> usize
-    requires { ⌜ from ≤ 64 ⌝ }
-    ensures { λ r. ⌜ Next (has set) from 64 r ⌝ }
+// The first column of a set from `from` on, or the limit where there is none.
+pub fn next(set: Set, from: usize) -> usize
+    requires { ⌜ from ≤ columnLimit ⌝ }
+    ensures { λ r. ⌜ Next (has set) from columnLimit r ⌝ }
 {
-    if from == 64 {
-        return 64;
+    if from == LIMIT {
+        return LIMIT;
     }
     let rest = set >> from;
     if rest == 0 {
-        return 64;
+        return LIMIT;
     }
     from + u64::trailing_zeros(rest) as usize
 }

@@ -1,15 +1,30 @@
 // The covering matrix on slices: sets of columns are words, sets of rows are arrays of twelve words. The reductions, the bounds and the search ask and
 // change such sets by these functions alone.
 //
-// A row with the columns 0 and 3, asked for its columns: `columns::next(9, 0)` is 0, `columns::next(9, 1)` is 3 and `columns::next(9, 4)` is 64, the end.
+// A row with the columns 0 and 3, asked for its columns: `columns::next(9, 0)` is 0, `columns::next(9, 1)` is 3 and `columns::next(9, 4)` is `columns::LIMIT`, the end.
 ghost use mathlib.Core.Path.{_≡_};
-ghost use Prim.Native.Nat.{_^_, _<_};
+ghost use Prim.Native.Nat.{_^_, _<_, min, max};
 ghost use lib.ListN.{length};
-ghost use Rattle.matrix.specs.Matrix.{weightOf};
+ghost use Rattle.matrix.specs.Matrix.{rowCount, covered as coveredBy, weightOf};
 
 pub mod columns;
 pub mod rows;
 pub mod transposed;
+
+// The number of rows.
+pub fn row_count(words: &[u64]) -> usize
+    ensures { λ r. ⌜ r ≡ rowCount (now (words .entry)) ⌝ }
+{
+    words.len()
+}
+
+// The columns that the row i covers.
+pub fn covered(words: &[u64], i: usize) -> columns::Set
+    requires { ⌜ i < rowCount (now words) ⌝ }
+    ensures { λ r. ⌜ r ≡ coveredBy (now (words .entry)) i ⌝ }
+{
+    words[i]
+}
 
 // The weight of the row i.
 pub fn weight(weights: &[u32], i: usize) -> u64
@@ -17,4 +32,18 @@ pub fn weight(weights: &[u32], i: usize) -> u64
     ensures { λ r. ⌜ (r ≡ weightOf (now (weights .entry)) i) × (r < 2 ^ 32) ⌝ }
 {
     weights[i] as u64
+}
+
+// The smaller of two weights.
+pub fn smaller(a: u64, b: u64) -> u64
+    ensures { λ r. ⌜ r ≡ min a b ⌝ }
+{
+    if a < b { a } else { b }
+}
+
+// The larger of two weights.
+pub fn larger(a: u64, b: u64) -> u64
+    ensures { λ r. ⌜ r ≡ max a b ⌝ }
+{
+    if a < b { b } else { a }
 }

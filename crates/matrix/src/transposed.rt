@@ -1,32 +1,39 @@
 // The matrix by columns: the live rows that cover each undecided column. It is a hint that makes loops shorter. Nothing is promised of it, and whoever
 // uses it checks what it finds.
 ghost use Prim.Native.Nat.{_≤_, _<_};
-ghost use lib.ListN.{length};
+ghost use Rattle.matrix.specs.Sets.{rowLimit};
+ghost use Rattle.matrix.specs.Matrix.{rowCount};
 use crate::columns;
 use crate::rows;
 
+// A set of rows for each column.
+pub type ByColumn = [rows::Set; columns::LIMIT];
+
 // The row i noted at each column of the set.
-fn note(by_column: &mut [[u64; 12]; 64], set: u64, i: usize)
-    requires { ⌜ i < 768 ⌝ }
+fn note(by_column: &mut ByColumn, set: columns::Set, i: usize)
+    requires { ⌜ i < rowLimit ⌝ }
 {
-    let k = i / 64;
-    let row = columns::only(i % 64);
+    let k = i / rows::BITS;
+    let row = columns::only(i % rows::BITS);
     let mut c = columns::next(set, 0);
-    while c < 64 {
+    while c < columns::LIMIT {
         by_column[c][k] = columns::either(by_column[c][k], row);
         c = columns::next(set, c + 1);
     }
 }
 
 // The live rows noted at their undecided columns.
-pub fn fill(words: &[u64], live: &[u64; 12], undecided: u64) -> [[u64; 12]; 64]
-    requires { ⌜ length (now words) ≤ 768 ⌝ }
+pub fn fill(words: &[u64], live: &rows::Set, undecided: columns::Set) -> ByColumn
+    requires { ⌜ rowCount (now words) ≤ rowLimit ⌝ }
 {
-    let mut by_column = [[0u64; 12]; 64];
-    let mut i = rows::next(live, 0, words.len());
-    while i < words.len() {
-        note(&mut by_column, columns::both(words[i], undecided), i);
-        i = rows::next(live, i + 1, words.len());
+    let none = rows::none();
+    let mut by_column = [none; columns::LIMIT];
+    let end = crate::row_count(words);
+    let mut i = rows::next(live, 0, end);
+    while i < end {
+        let set = columns::both(crate::covered(words, i), undecided);
+        note(&mut by_column, set, i);
+        i = rows::next(live, i + 1, end);
     }
     by_column
 }

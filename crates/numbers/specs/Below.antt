@@ -1,6 +1,6 @@
--- The numbers below a bound: whether every one passes a test, whether some one does, which do, and a function's values over them; and how many
--- of a list pass, and what a list holds.
--- Assumes nothing.
+-- The numbers below a bound: whether every one of them passes a test, whether some one does, which of them do, and a function's values over them;
+-- and of a list of numbers, how many pass, whether a number stands in it, and that it holds some numbers once each and no others. `proofs/Below.antt`
+-- has the laws. Assumes nothing.
 use mathlib.Core.Path.{_≡_}
 use Prim.Native.Nat.{ℕ, zero, suc, _+_}
 use mathlib.Core.Bool.{Bool, true, false, cond, _&&_, _||_}
@@ -38,7 +38,7 @@ among x [] = false
 among x (y ∷ ys) = eqb x y || among x ys
 
 -- the list holds each number of which P is true, once, and no other number
-pub record Lists (xs : List ℕ) (P : ℕ → Type 0) : Type 0 where
+pub record EachOnce (xs : List ℕ) (P : ℕ → Type 0) : Type 0 where
   pub each : (q : ℕ) → P q → count (eqb q) xs ≡ 1
   pub no-other : (q : ℕ) → (P q → ⊥) → count (eqb q) xs ≡ 0
 

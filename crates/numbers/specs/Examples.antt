@@ -1,4 +1,4 @@
--- The definitions on one example: the odd numbers among those below 5. `proofs/Examples.antt` has them computed. Assumes nothing.
+-- The definitions on one example: the odd numbers below 5. `proofs/Examples.antt` computes them. Assumes nothing.
 use mathlib.Core.Path.{_≡_}
 use mathlib.Core.Bool.{Bool, true, false}
 use mathlib.Core.List.{[], _∷_}
@@ -9,7 +9,7 @@ use Rattle.numbers.specs.Below.{every, some, those, count, among, run}
 abbrev pub odd : ℕ → Bool
 odd i = eqb (i % 2) 1
 
-pub record Examples : Type 0 where
+pub record NumberExamples : Type 0 where
   pub ascending : those 5 odd ≡ 1 ∷ 3 ∷ []
   pub not-every : every 5 odd ≡ false
   pub some-one : some 5 odd ≡ true

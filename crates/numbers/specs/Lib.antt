@@ -1,3 +1,3 @@
--- The numbers below a bound, and lists of numbers; one example of each definition.
+-- The definitions: the numbers below a bound and lists of numbers, then one example of each.
 pub mod Below
 pub mod Examples

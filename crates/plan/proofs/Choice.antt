@@ -14,21 +14,21 @@ use Rattle.numbers.specs.Below.{those}
 use Rattle.cube.specs.Words.{onSet, Cover, rowMatches, coverLiterals, rowOf, primesOf}
 use Rattle.cube.specs.Calls.{widest}
 use Rattle.cube.specs.Minimum as lists
-use Rattle.cube.proofs.Bools.{and-l, and-r, and-i, is-true, holds}
-use Rattle.cube.proofs.Below.{those-ascend}
+use Rattle.numbers.proofs.Bools.{and-l, and-r, and-i, is-true, holds}
+use Rattle.numbers.proofs.Below.{those-ascend}
 use Rattle.cube.proofs.Calls.{codes-most, cubes-most, primes-most}
-use Rattle.cube.proofs.Lent.{sets-front}
+use Rattle.numbers.proofs.Lent.{sets-front}
 use Rattle.cube.proofs.Minimum.{minimum-rows}
-use Rattle.covering.specs.Cover.{Within, Minimum}
+use Rattle.covering.specs.Weighted.{Within, LeastCover}
 use Rattle.matrix.specs.Sets.{has, In, member}
 use Rattle.matrix.specs.Matrix.{covers, weightOf}
-use Rattle.chart.specs.Columns.{wordOf, rowColumn}
-use Rattle.chart.specs.Chart.{IsChart}
-use Rattle.chart.specs.declared.Arrays.{Arrays}
-use Rattle.chart.proofs.Words.{has-word}
+use Rattle.chart_arrays.specs.Columns.{wordOf, rowColumn}
+use Rattle.chart_arrays.specs.Chart.{IsChart}
+use Rattle.chart_arrays.specs.declared.Arrays.{Arrays}
+use Rattle.chart_arrays.proofs.Columns.{has-word}
 use Rattle.plan.specs.Plan.{rowWeight, rowsOfCubes, Lightest, ascendsFrom, ascending, Chosen}
 use Rattle.search.specs.Search.{Coverable}
-use Rattle.search.specs.declared.Answer.{Answer}
+use Rattle.search.specs.declared.Solution.{Solution}
 use Rattle.plan.proofs.Selections.{ChartOf, cubeAt, listOf, list-weight, minimum-list, coverable, cubes-below, ascending-list}
 
 -- a row that tests nothing matches every code, so its columns are the wanted codes
@@ -79,7 +79,7 @@ rows-most n t w a chart = omega (arith, chart .rows, primes-most n t, cubes-most
 small-lists : (n : ℕ) → n ≤ widest → n * 2 ^ n < rowWeight
 small-lists n w = omega (arith, mul-le-mul-left n (codes-most n w))
 
-module _ (n : ℕ) (t : List ℕ) (width : n ≤ widest) (cells : length t ≡ 2 ^ n) (a : Arrays) (chart : IsChart n t a) (u : ℕ) (u-is : u ≡ wantedWord n t cells) (found : Answer)
+module _ (n : ℕ) (t : List ℕ) (width : n ≤ widest) (cells : length t ≡ 2 ^ n) (a : Arrays) (chart : IsChart n t a) (u : ℕ) (u-is : u ≡ wantedWord n t cells) (found : Solution)
     (light : Lightest (take (a .rows) (a .words)) (a .literals) u found) where
   words : List ℕ
   words = take (a .rows) (a .words)
@@ -108,11 +108,11 @@ module _ (n : ℕ) (t : List ℕ) (width : n ≤ widest) (cells : length t ≡ 2
   L : List ℕ
   L = those (a .rows) (member (found .picked))
 
-  minimum-selection : Minimum (covers words) (weightOf (light .weights)) (λ i. i < length (primesOf n t)) (In u) L (found .weight)
+  minimum-selection : LeastCover (covers words) (weightOf (light .weights)) (λ i. i < length (primesOf n t)) (In u) L (found .weight)
   unfolding words L
   minimum-selection =
-      subst (λ (k : ℕ). Minimum (covers words) (weightOf (light .weights)) (λ i. i < k) (In u) L (found .weight)) (chart .rows)
-      (subst (λ (k : ℕ). Minimum (covers words) (weightOf (light .weights)) (λ i. i < k) (In u) (those k (member (found .picked))) (found .weight)) words-long (light .minimum (subst⁻¹ (Coverable words) u-is each-column)))
+      subst (λ (k : ℕ). LeastCover (covers words) (weightOf (light .weights)) (λ i. i < k) (In u) L (found .weight)) (chart .rows)
+      (subst (λ (k : ℕ). LeastCover (covers words) (weightOf (light .weights)) (λ i. i < k) (In u) (those k (member (found .picked))) (found .weight)) words-long (light .minimum (subst⁻¹ (Coverable words) u-is each-column)))
 
   list : Cover
   list = listOf n t words (light .weights) of-chart L

@@ -10,7 +10,7 @@ use borrow.Table.Elements.{length-take-le}
 use Rattle.cube.specs.Words.{Cover, rowOf, numberOf, valueOf, careOf}
 use Rattle.cube.specs.Calls.{gives, answered, written}
 use Rattle.cube.proofs.Rows.{number-of-row}
-use Rattle.cube.proofs.Lent.{sets-front}
+use Rattle.numbers.proofs.Lent.{sets-front}
 use Rattle.cube.proofs.Minimum.{minimum-rows}
 use Rattle.plan.specs.Plan.{planRefuses, totalsOf, ascending, Plans, rowsOfCubes, Chosen}
 use Rattle.plan.specs.declared.Planned.the-variants.{Rows, Refused}

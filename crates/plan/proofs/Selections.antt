@@ -11,20 +11,20 @@ use lib.Dec.{T, ltb, leb, lt→ltb, le→leb, leb→le}
 use lib.ListN.{length, getD}
 use Rattle.cube.specs.Words.{onSet, offSet, Row, Cover, rowMatches, formed, eachRow, allFormed, coverMatches, coverLiterals, implements, cubeMatches, cubeLiterals, rowOf, numberOf, implicant, prime, primesOf}
 use Rattle.cube.specs.Minimum as lists
-use Rattle.cube.proofs.Bools.{and-l, and-r, and-i, or-e, or-l, or-r, is-true, holds}
-use Rattle.cube.proofs.Below.{those-at, those-ascend, those-place}
+use Rattle.numbers.proofs.Bools.{and-l, and-r, and-i, or-e, or-l, or-r, is-true, holds}
+use Rattle.numbers.proofs.Below.{those-at, those-ascend, those-place}
 use Rattle.cube.proofs.Digits.{contained-matches, contained-literals}
 use Rattle.cube.proofs.Implicants.{implicant-at, prime-implicant, prime-above}
 use Rattle.cube.proofs.Rows.{cube-lt, row-is-cube, row-literals, row-formed, row-of-matches, row-of-literals}
 use Rattle.cube.proofs.Theorems.{implements-on, implements-by}
 use Rattle.cube.proofs.Independent.{sound, rows-sound}
 use Rattle.cube.proofs.Covers.{literals-most, code-by-code}
-use Rattle.covering.specs.Cover.{Within, Hits, weight, Minimum}
+use Rattle.covering.specs.Weighted.{Within, Hits, weight, LeastCover}
 use Rattle.covering.proofs.Bounds.{hitter}
 use Rattle.matrix.specs.Sets.{has, In}
 use Rattle.matrix.specs.Matrix.{covers, weightOf}
-use Rattle.chart.specs.Columns.{column, columnsOf}
-use Rattle.chart.proofs.Words.{has-word}
+use Rattle.chart_arrays.specs.Columns.{column, columnsOf}
+use Rattle.chart_arrays.proofs.Columns.{has-word}
 use Rattle.plan.specs.Plan.{rowWeight, weightOfCube, rowsOfCubes, ascendsFrom, ascending}
 use Rattle.plan.proofs.Weights.{rows-most, weight-orders}
 
@@ -145,7 +145,7 @@ module _ (n : ℕ) (t words weights : List ℕ) (chart : ChartOf n t words weigh
   -- ---- the minimum selection's list is shortest
 
   module _ (small : n * 2 ^ n < rowWeight) (u k : ℕ) (columns : (c : ℕ) → In u c → (c < 2 ^ n) × T (onSet t c)) (wanted : (c : ℕ) → c < 2 ^ n → T (onSet t c) → In u c)
-      (L : List ℕ) (m : Minimum (covers words) (weightOf weights) ChartRow (In u) L k) where
+      (L : List ℕ) (m : LeastCover (covers words) (weightOf weights) ChartRow (In u) L k) where
     -- no list that is right weighs less
     no-lighter : (rs : Cover) → T (allFormed n rs) → T (implements n t rs)
         → rowWeight * length (listOf L) + coverLiterals n (listOf L) ≤ rowWeight * length rs + coverLiterals n rs

@@ -5,7 +5,7 @@ use Prim.Native.Nat.{ℕ, _+_, _*_, _^_, _<_, _≤_}
 use native.Mathlib.Nat.{eq-or-lt-of-le, mul-le-mul-left}
 use native.Mathlib.Omega.{arith}
 use Rattle.cube.specs.Minimum.{NoBetter}
-use Rattle.cube.proofs.Bools.{lt-or-le}
+use Rattle.numbers.proofs.Bools.{lt-or-le}
 use Rattle.plan.specs.Plan.{rowWeight}
 
 -- few rows test few bits

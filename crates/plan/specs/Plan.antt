@@ -9,9 +9,9 @@ use lib.ListN.{length, take, getD}
 use Rattle.cube.specs.Words.{Cover, coverLiterals, cubeLiterals, rowOf, numberOf}
 use Rattle.cube.specs.Calls.{badWidth, badLength, badCell, short, when, firstOf, Answer, refuses, gives, answered, written}
 use Rattle.cube.specs.Minimum.{Minimum}
-use Rattle.chart.specs.Chart.{Cubes}
+use Rattle.chart_arrays.specs.Chart.{Cubes}
 use Rattle.search.specs.Search.{Coverable, MinimumCover}
-use Rattle.search.specs.declared.Answer.{Answer as Found}
+use Rattle.search.specs.declared.Solution.{Solution}
 use Rattle.plan.specs.declared.Planned.{Planned}
 use Rattle.plan.specs.declared.Planned.the-variants as planned
 
@@ -78,7 +78,7 @@ abbrev pub weightOfCube : ℕ → ℕ → ℕ
 weightOfCube n q = rowWeight + cubeLiterals n q
 
 -- a minimum cover of the columns by chart rows of these words and literals, where each column has a row
-pub record Lightest (words literals : List ℕ) (columns : ℕ) (a : Found) : Type 0 where
+pub record Lightest (words literals : List ℕ) (columns : ℕ) (a : Solution) : Type 0 where
   pub weights : List ℕ
   pub weigh : (i : ℕ) → i < length words → getD weights i 0 ≡ rowWeight + getD literals i 0
   pub minimum : Coverable words columns → MinimumCover words weights columns (a .weight) (a .picked)

@@ -5,7 +5,7 @@
 //     let mut cares = [0u8; 4];
 //     plan::plan(2, &[0, 1, 1, 1], &mut values, &mut cares)   // 2 rows, 2 bits: 1- and -1, values 2 1, cares 2 1
 use matrix::rows;
-use search::Answer;
+use search::Solution;
 use spelling::MOST_CODES;
 use spelling::MOST_CUBES;
 ghost use mathlib.Core.Path.{_≡_};
@@ -17,7 +17,7 @@ ghost use Rattle.numbers.specs.Below.{those};
 ghost use Rattle.cube.specs.Calls.{widest};
 ghost use Rattle.cube.specs.Words.{valueOf, careOf};
 ghost use Rattle.matrix.specs.Sets.{member};
-ghost use Rattle.chart.specs.Chart.{Cubes};
+ghost use Rattle.chart_arrays.specs.Chart.{Cubes};
 ghost use Rattle.plan.specs.Plan.{planRefuses, Plans, rowWeight, Lightest, Chosen};
 
 // The number of rows and the sum of their tested bits, or the number of the refusal.
@@ -27,7 +27,7 @@ pub enum Planned {
 }
 
 // A shortest list: how many rows, their tested bits, and their cubes, ascending, in the first places.
-pub struct Selection {
+pub struct CubeList {
     pub count: usize,
     pub bits: usize,
     pub cubes: [u16; MOST_CODES],
@@ -77,7 +77,7 @@ fn write_rows(n: usize, cubes: &[u16], count: usize, values: &mut [u8], cares: &
 }
 
 // The lightest selection of the first rows that covers the columns.
-fn lightest<'a>(words: &'a [u64], literals: &'a [u8], rows: usize, columns: u64) -> Answer
+fn lightest<'a>(words: &'a [u64], literals: &'a [u8], rows: usize, columns: u64) -> Solution
     requires { ⌜ (rows ≤ 729) × (rows ≤ length (now words)) × (rows ≤ length (now literals)) ⌝ }
     ensures { λ r. ⌜ Lightest (take rows (now (words .entry))) (now (literals .entry)) columns r ⌝ }
 {
@@ -87,20 +87,20 @@ fn lightest<'a>(words: &'a [u64], literals: &'a [u8], rows: usize, columns: u64)
 }
 
 // A shortest list for a table of n variables.
-pub fn shortest(n: usize, table: &[u8]) -> Selection
+pub fn shortest(n: usize, table: &[u8]) -> CubeList
     requires { ⌜ (n ≤ widest) × (length (now table) ≡ 2 ^ n) ⌝ }
     ensures { λ r. ⌜ Chosen n (now (table .entry)) (r .cubes) (r .count) (r .bits) ⌝ }
 {
-    let chart = chart::build(n, table);
+    let chart = chart_arrays::build(n, table);
     let found = lightest(
         &chart.words,
         &chart.literals,
         chart.rows,
-        chart::row_columns(table, 0, 0),
+        chart_arrays::row_columns(table, 0, 0),
     );
     let mut cubes = [0u16; MOST_CODES];
     let count = list_picked(&found.picked, &chart.cubes, chart.rows, &mut cubes);
-    Selection {
+    CubeList {
         count,
         bits: found.weight as usize - 10000 * count,
         cubes,
@@ -111,7 +111,7 @@ pub fn shortest(n: usize, table: &[u8]) -> Selection
 fn plan_refusal(n: usize, table: &[u8], values: usize, cares: usize) -> u8
     ensures { λ r. ⌜ r ≡ planRefuses n (now (table .entry)) values cares ⌝ }
 {
-    let k = primes::table_refusal(n, table);
+    let k = tables::table_refusal(n, table);
     if k != 0 {
         return k;
     }

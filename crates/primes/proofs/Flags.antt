@@ -9,7 +9,7 @@ use lib.Dec.{eqb, lit<}
 use mir.Val.{boolByte}
 use Rattle.numbers.specs.Below.{flag}
 use Rattle.cube.specs.Words.{tested, digit, implicant, prime}
-use Rattle.cube.proofs.Below.{some-same}
+use Rattle.numbers.proofs.Below.{some-same}
 use Rattle.cube.proofs.Digits.{putDigit, put-lt, put-weight, digit-lt}
 use Rattle.cube.proofs.Implicants.{expands, maximal, prime-is-maximal}
 use Rattle.primes.specs.Primes.{Marks, isMarked, freed, expandsBy, primeBy}

@@ -11,7 +11,7 @@ use borrow.Author.Tests.{ltb-false, lt-ltb, le-ltb}
 use Rattle.numbers.specs.Below.{those}
 use Rattle.cube.specs.Calls.{short, firstOf, tableConditions, Listed}
 use Rattle.cube.specs.declared.Counted.the-variants.{Count, Refused}
-use Rattle.cube.proofs.Below.{those-same}
+use Rattle.numbers.proofs.Below.{those-same}
 use Rattle.cube.proofs.Calls.{Accepted, four-table, four-holds, four-passes, four-none, listed-refused, listed-done}
 use Rattle.primes.specs.Primes.{primesRefuses, Marks, isMarked}
 use Rattle.primes.proofs.Flags.{marked-is}

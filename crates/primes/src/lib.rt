@@ -12,38 +12,8 @@ ghost use lib.ListN.{length};
 ghost use lib.Seq.{sets};
 ghost use Rattle.numbers.specs.Below.{flag, those};
 ghost use Rattle.cube.specs.Words.{implicant, prime, primesOf};
-ghost use Rattle.cube.specs.Calls.{widest, badCell, tableConditions, firstOf, Listed};
+ghost use Rattle.cube.specs.Calls.{widest, Listed};
 ghost use Rattle.primes.specs.Primes.{primesRefuses, Flagged, Marks, KeptFrom, isMarked, expandsBy, primeBy};
-
-// Whether a cell is above 2.
-fn bad_cell(table: &[u8]) -> bool
-    ensures { λ r. ⌜ r ≡ badCell (now (table .entry)) ⌝ }
-{
-    let mut c = 0;
-    while c < table.len() {
-        if 2 < table[c] {
-            return true;
-        }
-        c += 1;
-    }
-    false
-}
-
-// What every call on a table refuses first: 1, 2, 3, or 0 where none of these holds.
-pub fn table_refusal(n: usize, table: &[u8]) -> u8
-    ensures { λ r. ⌜ r ≡ firstOf (tableConditions n (now (table .entry))) ⌝ }
-{
-    if spelling::bad_width(n) {
-        return 1;
-    }
-    if table.len() != spelling::codes(n) {
-        return 2;
-    }
-    if bad_cell(table) {
-        return 3;
-    }
-    0
-}
 
 // The flag of cube q: from its cell, or from the flags of its halves.
 fn implicant_flag(n: usize, table: &[u8], flags: &[u8], q: usize) -> u8
@@ -74,7 +44,7 @@ fn expands(n: usize, flags: &[u8], q: usize, k: usize) -> bool
     requires { ⌜ (n ≤ widest) × (3 ^ n ≤ length (now flags)) × (q < 3 ^ n) × (k < n) ⌝ }
     ensures { λ r. ⌜ r ≡ expandsBy (now (flags .entry)) q k ⌝ }
 {
-    let d = cells::digit(q, k);
+    let d = spelling::digit(q, k);
     if d == 2 {
         return false;
     }
@@ -165,7 +135,7 @@ pub fn list_primes(n: usize, table: &[u8], out: &mut [u16]) -> usize
 pub fn listing_refusal(n: usize, table: &[u8], places: usize) -> u8
     ensures { λ r. ⌜ r ≡ primesRefuses n (now (table .entry)) places ⌝ }
 {
-    let k = table_refusal(n, table);
+    let k = tables::table_refusal(n, table);
     if k != 0 {
         return k;
     }

@@ -3,7 +3,9 @@
 //
 // Rows {0, 1}, {1, 2} and {2}, each of weight 1, for the columns 0, 1 and 2: the third row is dropped for the second, and then both rows are taken.
 ghost use Rattle.matrix.specs.Matrix.{Sizes};
-ghost use Rattle.reduction.specs.Reduction.{Room, Onward, ReducedTo};
+ghost use Rattle.reduction.specs.Reduction.{CostBounded, ReducedTo};
+ghost use Rattle.reduction.specs.Steps.{Onward};
+use matrix::columns;
 use matrix::rows;
 
 pub mod column_dominance;
@@ -12,24 +14,25 @@ pub mod row_dominance;
 
 // What is left of a covering problem: the live rows and the undecided columns, with the rows taken and what those weigh.
 pub struct Remaining {
-    pub live: [u64; 12],
-    pub undecided: u64,
-    pub taken: [u64; 12],
+    pub live: rows::Set,
+    pub undecided: columns::Set,
+    pub taken: rows::Set,
     pub cost: u64,
 }
 
 // One round of the reductions.
 fn pass(words: &[u64], weights: &[u32], state: Remaining) -> Remaining
-    requires { ⌜ Sizes (now words) (now weights) × Room state ⌝ }
+    requires { ⌜ Sizes (now words) (now weights) × CostBounded state ⌝ }
     ensures { λ r. ⌜ Onward (now (words .entry)) (now (weights .entry)) state r ⌝ }
 {
     let live = state.live;
-    let undecided = column_dominance::drop_columns(words, &live, state.undecided);
-    let kept = row_dominance::drop_rows(words, weights, live, undecided);
+    let undecided = state.undecided;
+    let fewer_columns = column_dominance::drop_columns(words, &live, undecided);
+    let fewer_rows = row_dominance::drop_rows(words, weights, live, fewer_columns);
     let taken = state.taken;
     let rest = Remaining {
-        live: kept,
-        undecided,
+        live: fewer_rows,
+        undecided: fewer_columns,
         taken,
         cost: state.cost,
     };
@@ -37,7 +40,12 @@ fn pass(words: &[u64], weights: &[u32], state: Remaining) -> Remaining
 }
 
 // The reductions, repeated until no row is dropped or taken.
-pub fn reduce(words: &[u64], weights: &[u32], live: [u64; 12], undecided: u64) -> Remaining
+pub fn cyclic_core(
+    words: &[u64],
+    weights: &[u32],
+    live: rows::Set,
+    undecided: columns::Set,
+) -> Remaining
     requires { ⌜ Sizes (now words) (now weights) ⌝ }
     ensures { λ r. ⌜ ReducedTo (now (words .entry)) (now (weights .entry)) live undecided r ⌝ }
 {
@@ -47,12 +55,13 @@ pub fn reduce(words: &[u64], weights: &[u32], live: [u64; 12], undecided: u64) -
         taken: rows::none(),
         cost: 0,
     };
-    let mut size = rows::size(&live, words.len());
+    let end = matrix::row_count(words);
+    let mut size = rows::size(&live, end);
     loop {
         let next = pass(words, weights, state);
         state = next;
         let left = state.live;
-        let fewer = rows::size(&left, words.len());
+        let fewer = rows::size(&left, end);
         if fewer == size {
             return state;
         }

@@ -15,7 +15,7 @@ use Rattle.plan.specs.Theorems.{Held}
 use Rattle.plan.proofs.Answers.{not-refused, accepted-refused, refused-by}
 use Rattle.plan.proofs.Theorems.{arrays-hold}
 use Rattle.text.specs.Input.{Table, kept, keep, State, atStart, fed, closed}
-use Rattle.text.specs.Output.{mostOutput, refused, listed, planned, printed}
+use Rattle.text.specs.Output.{mostOutput, refused, listText, planned, printed}
 use Rattle.text.specs.Reading.{stateOf}
 use Rattle.text.specs.Printing.{Printable, Prints}
 use Rattle.text.specs.declared.input.Reading.{Reading}
@@ -52,7 +52,7 @@ module _ (n : ℕ) (t values cares values′ cares′ : List ℕ) (v : length va
           room = room;
         }
 
-    pub list-printed : (old new : List ℕ) (r : ℕ) → Prints (listed n (firstRows rows values′ cares′) rows bits) old new r → PrintsTable n t old new r
+    pub list-printed : (old new : List ℕ) (r : ℕ) → Prints (listText n (firstRows rows values′ cares′) rows bits) old new r → PrintsTable n t old new r
     list-printed old new r q =
         let list = firstRows rows values′ cares′ in
         record {
@@ -60,7 +60,7 @@ module _ (n : ℕ) (t values cares values′ cares′ : List ℕ) (v : length va
           is-written = λ e. record { minimum = held .minimum; is-ascending = held .is-ascending };
           prints =
               subst (λ (text : List ℕ). Prints text old new r)
-              (ap₂ (λ (x y : ℕ). listed n list x y) (sym (held .row-count)) (sym (held .bit-count)) ∙ ap (λ (k : ℕ). planned k n list) (sym table-accepted)) q;
+              (ap₂ (λ (x y : ℕ). listText n list x y) (sym (held .row-count)) (sym (held .bit-count)) ∙ ap (λ (k : ℕ). planned k n list) (sym table-accepted)) q;
         }
 
   pub refusal-printed : (k : ℕ) → Plans n t values cares values′ cares′ (Refused k) → (old new : List ℕ) (r : ℕ) → Prints (refused k) old new r → PrintsTable n t old new r

@@ -11,8 +11,8 @@ use lib.ListN.{length, length-map, getD}
 use Rattle.cube.specs.Words.{Row, Cover, formed, eachRow, allFormed, numberOf, prime, primesOf}
 use Rattle.cube.specs.Minimum.{Minimum}
 use Rattle.numbers.specs.Below.{among}
-use Rattle.cube.proofs.Bools.{and-l, and-r, or-e, or-l, or-r}
-use Rattle.cube.proofs.Below.{those-place}
+use Rattle.numbers.proofs.Bools.{and-l, and-r, or-e, or-l, or-r}
+use Rattle.numbers.proofs.Below.{those-place}
 use Rattle.cube.proofs.Minimum.{shortest}
 use Rattle.cube.proofs.Rows.{cube-lt, row-back}
 use Rattle.plan.specs.Plan.{ascendsFrom, ascending, rowsOfCubes}

@@ -1,2 +1,3 @@
--- What the search promises.
+-- What the search promises, and what its steps show.
 pub mod Search
+pub mod Steps

@@ -7,7 +7,7 @@ mod values;
 
 ghost use mathlib.Core.Path.{_≡_};
 ghost use Prim.Native.Nat.{_<_, _≤_, _^_};
-ghost use Rattle.cube.specs.Words.{Row, valueOf, careOf, rowOf};
+ghost use Rattle.cube.specs.Words.{Row, digit as digitAt, valueOf, careOf, rowOf};
 ghost use Rattle.cube.specs.Calls.{widest, badWidth, answered};
 ghost use Rattle.spelling.specs.Spell.{spellRefuses, spellAnswer};
 
@@ -47,6 +47,14 @@ pub fn cubes(n: usize) -> usize
     ensures { λ r. ⌜ r ≡ 3 ^ n ⌝ }
 {
     POWERS_OF_THREE[n]
+}
+
+// Digit k of a cube, counted from the last.
+pub fn digit(q: usize, k: usize) -> usize
+    requires { ⌜ k ≤ widest ⌝ }
+    ensures { λ r. ⌜ r ≡ digitAt k q ⌝ }
+{
+    q / cubes(k) % 3
 }
 
 // The value of a cube of n digits: a cube number has the same value with zeros before it.

@@ -10,7 +10,7 @@ use native.Mathlib.Omega.{arith}
 use lib.Dec.{ltb}
 use lib.ListN.{length, length-append}
 use borrow.Author.Tests.{lt-ltb, le-ltb, ltb-false}
-use Rattle.cube.proofs.Bools.{lt-or-le}
+use Rattle.numbers.proofs.Bools.{lt-or-le}
 use Rattle.text.specs.Characters.{digitCharacter}
 use Rattle.text.specs.Output.{decimalBy, decimal}
 use Rattle.text.specs.Theorems.{Decimal}

@@ -12,8 +12,8 @@ use borrow.Author.Tests.{eqb-true, leb-true, le-leb, le-ltb, ltb-false}
 use Rattle.numbers.specs.Below.{some}
 use Rattle.cube.specs.Words.{cell}
 use Rattle.cube.specs.Calls.{badCell, Answer, refuses, gives}
-use Rattle.cube.proofs.Bools.{and-l, and-r, holds}
-use Rattle.cube.proofs.Below.{some-front}
+use Rattle.numbers.proofs.Bools.{and-l, and-r, holds}
+use Rattle.numbers.proofs.Below.{some-front}
 use Rattle.cube.proofs.Calls.{neither, refuses-gives, same-value}
 use Rattle.text.specs.Characters.{lineFeed, digitCharacter, character}
 use Rattle.text.specs.Input.{textOf, InForm, Table, notInForm, isDigit, widthOf, isCell, cellOf, isEnd, before, readRun, ofWidth, read}

@@ -11,7 +11,7 @@ use lib.Seq.{length-take-le, take-all}
 use borrow.Author.Tests.{ne-eqb}
 use Rattle.cube.specs.Words.{Cover}
 use Rattle.cube.specs.Calls.{widest, badWidth, badLength, badCell, Condition, when, firstOf, tableConditions, Answer, refuses, gives}
-use Rattle.cube.proofs.Bools.{lt-or-le}
+use Rattle.numbers.proofs.Bools.{lt-or-le}
 use Rattle.cube.proofs.Calls.{width-to, codes-most, first-holds, accepted}
 use Rattle.text.specs.Input.{Table, read, mostCells, keep, kept}
 use Rattle.text.specs.Output.{planned, printed}

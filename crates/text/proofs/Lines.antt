@@ -10,11 +10,12 @@ use lib.Seq.{sets, length-sets, length-take-le}
 use Rattle.numbers.specs.Below.{run}
 use Rattle.cube.specs.Words.{Row, Cover}
 use Rattle.cube.specs.Calls.{widest}
-use Rattle.cube.proofs.Below.{run-length}
-use Rattle.cube.proofs.Lent.{sets-append, sets-front}
+use Rattle.numbers.proofs.Below.{run-length}
+use Rattle.numbers.proofs.Lent.{sets-append, sets-front}
 use Rattle.text.specs.Characters.{bytes, lineFeed}
 use Rattle.text.specs.Output.{decimal, characterOfVariable, rowLine, listLines, totals, refused, mostDigits, mostOutput}
-use Rattle.text.specs.Printing.{Puts, Prints}
+use Rattle.cube.specs.Steps.{Puts}
+use Rattle.text.specs.Printing.{Prints}
 use Rattle.text.proofs.Decimals.{decimal-length}
 
 -- ---- one behind the other

@@ -9,7 +9,7 @@ use lib.Dec.{eqb}
 use lib.Seq.{append-snoc}
 use Rattle.cube.specs.Calls.{Answer, refuses, gives}
 use Rattle.cube.proofs.Calls.{refuses-gives}
-use Rattle.cube.proofs.Fronts.{take-cut}
+use Rattle.numbers.proofs.Fronts.{take-cut}
 use Rattle.text.specs.Characters.{lineFeed}
 use Rattle.text.specs.Input.{Table, notInForm, isDigit, widthOf, isCell, cellOf, isEnd, before, readRun, ofWidth, read, mostCells, keep, kept, State, atStart, afterDigit, inRun, atEnd, wrong, stepped, fed, closed}
 use Rattle.text.specs.Theorems.{Stepping}

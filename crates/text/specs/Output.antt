@@ -43,12 +43,12 @@ abbrev pub refused : ℕ → List ℕ
 refused k = bytes "refused " ++ decimal k ++ (lineFeed ∷ [])
 
 -- a list with these totals
-abbrev pub listed : ℕ → Cover → ℕ → ℕ → List ℕ
-listed n list rows bits = listLines n list ++ totals rows bits
+abbrev pub listText : ℕ → Cover → ℕ → ℕ → List ℕ
+listText n list rows bits = listLines n list ++ totals rows bits
 
 -- what is printed for a table: the refusal by Plan, whose two arrays are long enough, or the list and its two counts
 abbrev pub planned : ℕ → ℕ → Cover → List ℕ
-planned zero n list = listed n list (length list) (coverLiterals n list)
+planned zero n list = listText n list (length list) (coverLiterals n list)
 planned (suc k) n list = refused (suc k)
 
 -- "Other text prints `refused 9` [..]; otherwise a refusal by Plan prints `refused K`": what is printed for what a text says

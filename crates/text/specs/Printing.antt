@@ -3,14 +3,8 @@ use mathlib.Core.Path.{_≡_}
 use Prim.Native.Nat.{ℕ, _+_, _^_, _≤_}
 use mathlib.Core.List.{List}
 use lib.ListN.{length, take}
-use lib.Seq.{sets}
 use Rattle.cube.specs.Calls.{widest, written}
 use Rattle.text.specs.Output.{mostOutput}
-
--- a text was put into a buffer from place `at` on, and next is the place behind it
-pub record Puts (text old : List ℕ) (at : ℕ) (new : List ℕ) (next : ℕ) : Type 0 where
-  pub behind : next ≡ at + length text
-  pub places : new ≡ sets old at text
 
 -- a list that can be printed: so many rows in two arrays, and a buffer for its lines
 pub record Printable (n : ℕ) (values cares : List ℕ) (count : ℕ) (out : List ℕ) : Type 0 where

@@ -43,11 +43,11 @@ textAnswer (text.Table n count) cells = gives (record { width = n; cells = take 
 textAnswer (text.Refused k) cells = refuses k
 
 -- how many cells of the buffer are the table's
-abbrev pub counted : Text → ℕ
-counted (text.Table n count) = count
-counted (text.Refused k) = 0
+abbrev pub tableCells : Text → ℕ
+tableCells (text.Table n count) = count
+tableCells (text.Refused k) = 0
 
 -- the text ends: the answer is the one that the definition gives, whatever cells stand in the buffer
 pub record Closes (reading : Reading) (r : Text) : Type 0 where
   pub answer : (cells : List ℕ) → textAnswer r cells ≡ closed (stateOf reading cells)
-  pub count : counted r ≤ cellsKept reading
+  pub count : tableCells r ≤ cellsKept reading

@@ -6,10 +6,11 @@ ghost use lib.ListN.{length};
 ghost use Rattle.cube.specs.Words.{firstRows};
 ghost use Rattle.cube.specs.Theorems.{Variable};
 ghost use Rattle.cube.specs.Calls.{widest};
+ghost use Rattle.cube.specs.Steps.{Puts};
 ghost use Rattle.text.specs.Characters.{lineFeed, digitCharacter};
-ghost use Rattle.text.specs.Output.{characterOfVariable, rowLine, listLines, listed, refused, mostOutput};
+ghost use Rattle.text.specs.Output.{characterOfVariable, rowLine, listLines, listText, refused, mostOutput};
 ghost use Rattle.text.specs.Output.{decimal as inDecimal, totals as totalLine};
-ghost use Rattle.text.specs.Printing.{Puts, Printable, Prints};
+ghost use Rattle.text.specs.Printing.{Printable, Prints};
 
 // The longest output: 64 lines of 7 bytes, and the last line with two numbers of 20 digits.
 pub const MOST_OUTPUT: usize = 500;
@@ -123,7 +124,7 @@ pub fn list(
     out: &mut [u8],
 ) -> usize
     requires { ⌜ Printable n (now values) (now cares) count (now out) ⌝ }
-    ensures { λ r. ⌜ Prints (listed n (firstRows count (now (values .entry)) (now (cares .entry))) count bits) (now (out .entry)) (now (out .exit)) r ⌝ }
+    ensures { λ r. ⌜ Prints (listText n (firstRows count (now (values .entry)) (now (cares .entry))) count bits) (now (out .entry)) (now (out .exit)) r ⌝ }
 {
     let at = rows(n, values, cares, count, out, 0);
     totals(count, bits, out, at)

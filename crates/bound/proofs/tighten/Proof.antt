@@ -20,7 +20,9 @@ certified-requires-2 : tie.Need-certified-requires-2
 certified-requires-2 c κs = search needs
 
 returns-2 : tie.Need-returns-2
-returns-2 c = bounds-then _ _ _ _ _ _ _ _ _ (c .before .before .before .before .before .before .before .certified .ensures) (c .certified2 .ensures)
+returns-2 c =
+    let left = c .before .before .before .before .before in
+    bounds-then _ _ (left .before .before .certified .ensures) (c .certified2 .ensures)
 
 pub tighten-spec : {M : Type 1} → statement M
 tighten-spec =

@@ -10,7 +10,7 @@ use borrow.Author.Needs.{needs}
 use borrow.Fn.Kinds.{In}
 use borrow.Fn.PlainCycle.{Measures, is, falls, and}
 use Rattle.cube.specs.Words.{cubeLiterals, codesOf}
-use Rattle.cube.proofs.Lent.{sets-append}
+use Rattle.numbers.proofs.Lent.{sets-append}
 use Rattle.cells.specs.Cells.{Splits}
 use Rattle.cells.specs.declared.Split.the-variants.{Halves}
 use Rattle.cells.proofs.write_codes.Reads as reads

@@ -6,7 +6,7 @@ use native.Mathlib.Omega.{arith}
 use borrow.Author.Needs.{needs}
 use Rattle.cube.specs.Words.{digit}
 use Rattle.cube.specs.Calls.{widest}
-use Rattle.cube.proofs.Bools.{lt-or-le}
+use Rattle.numbers.proofs.Bools.{lt-or-le}
 use Rattle.cells.proofs.first_untested.Statement.{statement}
 use Rattle.cells.proofs.first_untested.Tie as tie
 

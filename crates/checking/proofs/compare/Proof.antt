@@ -9,8 +9,8 @@ use lib.Dec.{T, eqb→eq}
 use borrow.Author.Needs.{needs}
 use Rattle.cube.specs.Words.{cell, onSet, offSet, Cover, coverMatches, rowsOf}
 use Rattle.cube.specs.Calls.{gives}
-use Rattle.cube.proofs.Bools.{and-l, or-e, is-true, is-false}
-use Rattle.cube.proofs.Below.{Lowest}
+use Rattle.numbers.proofs.Bools.{and-l, or-e, is-true, is-false}
+use Rattle.numbers.proofs.Below.{Lowest}
 use Rattle.cube.proofs.Calls.{codes-most}
 use Rattle.checking.specs.Check.{right, missed, stray, isMissed, isStray, isWrong, verdict, LowestWrong}
 use Rattle.checking.proofs.Verdicts.{verdict-right, verdict-named}

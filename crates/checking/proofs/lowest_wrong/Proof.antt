@@ -6,7 +6,7 @@ use lib.Dec.{T}
 use borrow.Author.Count.{below-more}
 use borrow.Author.Needs.{needs}
 use Rattle.cube.specs.Words.{rowsOf}
-use Rattle.cube.proofs.Bools.{holds}
+use Rattle.numbers.proofs.Bools.{holds}
 use Rattle.cube.proofs.Calls.{codes-most}
 use Rattle.checking.specs.Check.{isWrong}
 use Rattle.checking.proofs.lowest_wrong.Statement.{statement}

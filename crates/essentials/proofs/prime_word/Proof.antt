@@ -22,11 +22,11 @@ shared-slice-read-if1 c = lt-of-lt-of-le (c .before .before .before .pre .1) (c 
 returns : tie.Need-returns
 returns c = unmarked (c .before .before .before .before .args .marks .now) (c .before .before .before .before .args .q) _ (c .if1 .taken)
 
-columns-requires : tie.Need-columns-requires
-columns-requires c κs = let s = c .before .before .before .before in (s .pre .0 .width, s .pre .0 .cells, s .pre .1)
+cube-columns-requires : tie.Need-cube-columns-requires
+cube-columns-requires c κs = let s = c .before .before .before .before in (s .pre .0 .width, s .pre .0 .cells, s .pre .1)
 
 returns-2 : tie.Need-returns-2
-returns-2 c = marked (c .before .before .before .before .before .args .marks .now) (c .before .before .before .before .before .args .q) _ _ (c .before .if1 .left) (c .columns .ensures)
+returns-2 c = marked (c .before .before .before .before .before .args .marks .now) (c .before .before .before .before .before .args .q) _ _ (c .before .if1 .left) (c .cube-columns .ensures)
 
 pub prime-word-spec : {M : Type 1} → statement M
-prime-word-spec = tie.close (tie.spec shared-slice-read-if1 returns columns-requires returns-2)
+prime-word-spec = tie.close (tie.spec shared-slice-read-if1 returns cube-columns-requires returns-2)

@@ -8,10 +8,10 @@ use borrow.Author.Needs.{needs}
 use Rattle.cube.specs.Words.{prime}
 use Rattle.cube.specs.Calls.{widest}
 use Rattle.cube.proofs.Calls.{cubes-most}
-use Rattle.cube.proofs.Lent.{fill-more}
+use Rattle.numbers.proofs.Lent.{fill-more}
 use Rattle.primes.specs.Primes.{Flagged, Marks}
 use Rattle.primes.proofs.Flags.{marked-is}
-use Rattle.chart.specs.Columns.{columnsOf}
+use Rattle.chart_arrays.specs.Columns.{columnsOf}
 use Rattle.essentials.specs.Essentials.{PrimeWords}
 use Rattle.essentials.proofs.prime_words.Statement.{statement}
 use Rattle.essentials.proofs.prime_words.Tie as tie

@@ -9,7 +9,7 @@ use borrow.Author.Count.{below-more}
 use borrow.Author.Needs.{needs}
 use Rattle.cube.specs.Words.{formed, rowsOf}
 use Rattle.cube.specs.Calls.{badRow}
-use Rattle.cube.proofs.Below.{some-found, some-none}
+use Rattle.numbers.proofs.Below.{some-found, some-none}
 use Rattle.cube.proofs.Lists.{rowIn, bad-place}
 use Rattle.lists.proofs.bad_row.Statement.{statement}
 use Rattle.lists.proofs.bad_row.Tie as tie

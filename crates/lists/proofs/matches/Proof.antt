@@ -8,7 +8,7 @@ use lib.ListN.{length}
 use borrow.Author.Count.{below-more}
 use borrow.Author.Needs.{needs}
 use Rattle.cube.specs.Words.{rowMatches, coverMatches, rowsOf}
-use Rattle.cube.proofs.Below.{some-found, some-none}
+use Rattle.numbers.proofs.Below.{some-found, some-none}
 use Rattle.cube.proofs.Lists.{rowIn, matches-place}
 use Rattle.lists.proofs.matches.Statement.{statement}
 use Rattle.lists.proofs.matches.Tie as tie

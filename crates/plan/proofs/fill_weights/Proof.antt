@@ -4,7 +4,7 @@ use Prim.Native.Nat.{ℕ, _+_, _-_, _<_, _≤_}
 use native.Mathlib.Omega.{arith}
 use lib.ListN.{length, length-set, getD}
 use borrow.Author.Needs.{needs}
-use Rattle.cube.proofs.Lent.{fill-more}
+use Rattle.numbers.proofs.Lent.{fill-more}
 use Rattle.plan.specs.Plan.{rowWeight}
 use Rattle.plan.proofs.fill_weights.Statement.{statement}
 use Rattle.plan.proofs.fill_weights.Tie as tie

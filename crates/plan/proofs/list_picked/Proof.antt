@@ -6,8 +6,8 @@ use native.Mathlib.Omega.{arith}
 use lib.ListN.{length, getD}
 use borrow.Author.Needs.{needs}
 use Rattle.numbers.specs.Below.{those}
-use Rattle.cube.proofs.Below.{count-found}
-use Rattle.cube.proofs.Lent.{Collected, collect-none, collect-yes, collect-no, collect-le, collect-long, collected}
+use Rattle.numbers.proofs.Below.{count-found}
+use Rattle.numbers.proofs.Lent.{Collected, collect-none, collect-yes, collect-no, collect-le, collect-long, collected}
 use Rattle.matrix.specs.Sets.{member}
 use Rattle.plan.proofs.list_picked.Statement.{statement}
 use Rattle.plan.proofs.list_picked.Tie as tie

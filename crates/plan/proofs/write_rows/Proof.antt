@@ -8,8 +8,8 @@ use lib.Seq.{sets, length-sets}
 use borrow.Author.Needs.{needs}
 use Rattle.cube.specs.Words.{valueOf, careOf}
 use Rattle.cube.specs.Calls.{widest}
-use Rattle.cube.proofs.Lent.{map-more}
-use Rattle.chart.specs.Chart.{Cubes}
+use Rattle.numbers.proofs.Lent.{map-more}
+use Rattle.chart_arrays.specs.Chart.{Cubes}
 use Rattle.plan.proofs.write_rows.Statement.{statement}
 use Rattle.plan.proofs.write_rows.Tie as tie
 

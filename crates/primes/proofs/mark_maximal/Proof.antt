@@ -7,7 +7,7 @@ use lib.Seq.{getD-set-other}
 use borrow.Author.Needs.{needs}
 use Rattle.numbers.specs.Below.{flag}
 use Rattle.cube.specs.Calls.{widest}
-use Rattle.cube.proofs.Lent.{fill-more}
+use Rattle.numbers.proofs.Lent.{fill-more}
 use Rattle.primes.specs.Primes.{Marks, KeptFrom, primeBy}
 use Rattle.primes.proofs.Flags.{byte-is}
 use Rattle.primes.proofs.mark_maximal.Statement.{statement}

@@ -1,7 +1,10 @@
 -- `reduction::pass` meets its contract: columns and rows dropped, and then rows taken. Assumes nothing.
 use borrow.Author.Needs.{needs}
 use mathlib.Core.Path.{refl}
-use Rattle.reduction.proofs.Steps.{onward-kept, room-fewer}
+use native.Mathlib.Omega.{arith}
+use Rattle.matrix.specs.Sets.{rowLimit}
+use Rattle.matrix.proofs.Without.{size-fewer}
+use Rattle.reduction.proofs.Steps.{onward-kept}
 use Rattle.reduction.proofs.pass.Statement.{statement}
 use Rattle.reduction.proofs.pass.Tie as tie
 
@@ -13,14 +16,21 @@ drop-rows-requires c κs = search needs
 
 take-forced-requires : tie.Need-take-forced-requires
 take-forced-requires c κs =
-    let s = c .before .before .before .before .before .before .before in
-    (s .pre .0, room-fewer (s .args .words .now) (s .args .weights .now) (s .args .state) _ (s .pre .1) (c .before .drop-rows .ensures .fewer))
+    let dropped = c .before in
+    let start = dropped .before .before .before .before .before .before in
+    (start .pre .0, omega (arith, start .pre .1, size-fewer rowLimit _ _ (dropped .drop-rows .ensures .fewer)))
 
 returns : tie.Need-returns
 returns c =
-    let s = c .before .before .before .before .before .before .before .before in
-    onward-kept _ _ _ _ _ (s .pre .1) (c .before .before .before .drop-columns .ensures (s .args .weights .now)) (c .before .before .drop-rows .ensures) refl refl (c .take-forced .ensures)
+    let dropped = c .before .before in
+    let start = dropped .before .before .before .before .before .before in
+    onward-kept _ _ _ _ _ (dropped .before .drop-columns .ensures (start .args .weights .now)) (dropped .drop-rows .ensures) refl refl (c .take-forced .ensures)
 
 pub pass-spec : {M : Type 1} → statement M
 pass-spec =
-    tie.close (tie.spec drop-columns-requires drop-rows-requires take-forced-requires returns)
+    tie.close
+    (tie.spec
+    drop-columns-requires
+    drop-rows-requires
+    take-forced-requires
+    returns)

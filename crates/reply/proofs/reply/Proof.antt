@@ -4,7 +4,7 @@ use Prim.Native.Nat.{_≤_}
 use native.Mathlib.Nat.{le-trans}
 use borrow.Author.Needs.{needs}
 use borrow.Table.Elements.{length-take-le}
-use Rattle.text.specs.Reading.{cellsKept, textAnswer, counted}
+use Rattle.text.specs.Reading.{cellsKept, textAnswer, tableCells}
 use Rattle.text.specs.declared.input.Text.{Text}
 use Rattle.reply.proofs.Printed.{table-said, refusal-said}
 use Rattle.reply.proofs.reply.Statement.{statement}

@@ -1,42 +1,41 @@
 -- The cycle of `choose` and `reduce`. Twice the number of live rows falls: by one from `reduce` to `choose`, and from there to `reduce` by one, since the
--- row that is chosen is live in neither branch. Assumes nothing.
+-- row that is chosen is live in neither branch. In an answer a `let` names a place of the code by what was found there. Assumes nothing.
 use borrow.Author.Needs.{needs}
 use borrow.Fn.Kinds.{In}
 use borrow.Fn.PlainCycle.{Measures, is, falls, and}
 use Prim.Native.Nat.{ℕ, _+_, _*_, _<_}
 use native.Mathlib.Omega.{arith}
-use lib.ListN.{length}
-use Rattle.covering.specs.Cover.{count}
-use Rattle.matrix.specs.Sets.{member}
-use Rattle.matrix.proofs.Without.{left-count, count-fewer}
-use Rattle.search.proofs.Branches.{found-spent, found-decided, found-cut, found-uncoverable, found-chosen, found-branches}
+use Rattle.covering.specs.Weighted.{setSize}
+use Rattle.matrix.specs.Sets.{rowLimit, member}
+use Rattle.matrix.proofs.Without.{left-size, size-fewer}
+use Rattle.search.proofs.Branches.{found-spent, found-decided, found-none, found-chosen, found-branches}
 use Rattle.search.proofs.choose.Reads as choose
 use Rattle.search.proofs.choose.Kinds as choose-kinds
 use Rattle.search.proofs.+choose+reduce.Lts-choose as choose-lts
 use Rattle.search.proofs.reduce.Reads as reduce
 use Rattle.search.proofs.reduce.Kinds as reduce-kinds
 use Rattle.search.proofs.+choose+reduce.Lts-reduce as reduce-lts
-use Rattle.bound.proofs.tighten.Reads as tighten-reads
 use Rattle.matrix.proofs.columns.is_empty.Reads as is-empty-reads
 use Rattle.matrix.proofs.columns.without.Reads as without-reads
-use Rattle.matrix.proofs.rows.either.Reads as either-reads
+use Rattle.matrix.proofs.covered.Reads as covered-reads
+use Rattle.matrix.proofs.row_count.Reads as row-count-reads
 use Rattle.matrix.proofs.rows.without_row.Reads as without-row-reads
 use Rattle.matrix.proofs.weight.Reads as weight-reads
-use Rattle.reduction.proofs.reduce.Reads as reduce-reads
-use Rattle.search.proofs.branching.pick.Reads as pick-reads
+use Rattle.reduction.proofs.cyclic_core.Reads as cyclic-core-reads
+use Rattle.search.proofs.branch_point.Reads as branch-point-reads
+use Rattle.search.proofs.left_of.Reads as left-of-reads
 use Rattle.search.proofs.lighter.Reads as lighter-reads
 use Rattle.search.proofs.none_below.Reads as none-below-reads
-use Rattle.search.proofs.room.Reads as room-reads
 use Rattle.search.proofs.taking.Reads as taking-reads
-use Rattle.std.proofs.num.wrapping_add_u64.Reads as wrapping-add-u64-reads
+use Rattle.search.proofs.with_taken.Reads as with-taken-reads
 use Rattle.search.proofs.+choose+reduce.{statement}
 use Rattle.search.proofs.+choose+reduce.Tie.{close}
 
 abbrev μ-choose : Measures 2 choose-kinds.ps ℕ
-μ-choose κs a = 2 * count 768 (member (a .1 .1 .0))
+μ-choose κs a = 2 * setSize rowLimit (member (a .1 .1 .0))
 
 abbrev μ-reduce : Measures 2 reduce-kinds.ps ℕ
-μ-reduce κs a = 2 * count 768 (member (a .1 .1 .0)) + 1
+μ-reduce κs a = 2 * setSize rowLimit (member (a .1 .1 .0)) + 1
 
 module _ (t : ℕ) where
   -- what each member assumes, and what the callees ask and tell
@@ -59,10 +58,12 @@ module _ (t : ℕ) where
     without-row-reads.Learnt,
     weight-reads.Asked,
     weight-reads.Learnt,
+    covered-reads.Asked,
+    covered-reads.Learnt,
     without-reads.Asked,
     without-reads.Learnt,
-    room-reads.Asked,
-    room-reads.Learnt,
+    left-of-reads.Asked,
+    left-of-reads.Learnt,
     reduce-below,
     reduce.Post,
     taking-reads.Asked,
@@ -73,22 +74,20 @@ module _ (t : ℕ) where
 
   abbrev reduce-claims : reduce-lts.Claims
   reduce-claims = (
-    reduce-reads.Asked,
-    reduce-reads.Learnt,
+    cyclic-core-reads.Asked,
+    cyclic-core-reads.Learnt,
     none-below-reads.Asked,
     none-below-reads.Learnt,
     is-empty-reads.Asked,
     is-empty-reads.Learnt,
-    tighten-reads.Asked,
-    tighten-reads.Learnt,
-    pick-reads.Asked,
-    pick-reads.Learnt,
+    branch-point-reads.Asked,
+    branch-point-reads.Learnt,
+    row-count-reads.Asked,
+    row-count-reads.Learnt,
     choose-below,
     choose.Post,
-    either-reads.Asked,
-    either-reads.Learnt,
-    wrapping-add-u64-reads.Asked,
-    wrapping-add-u64-reads.Learnt,
+    with-taken-reads.Asked,
+    with-taken-reads.Learnt,
   )
 
   choose-without-row-requires : choose-lts.Need-without-row-requires choose-claims choose-at choose.Post
@@ -97,105 +96,119 @@ module _ (t : ℕ) where
   choose-weight-requires : choose-lts.Need-weight-requires choose-claims choose-at choose.Post
   choose-weight-requires c κs = search needs
 
-  choose-mul-without : choose-lts.Need-mul-without choose-claims choose-at choose.Post
-  choose-mul-without c = search needs
-
-  choose-shared-slice-read-without : choose-lts.Need-shared-slice-read-without choose-claims choose-at choose.Post
-  choose-shared-slice-read-without c = search needs
+  choose-covered-requires : choose-lts.Need-covered-requires choose-claims choose-at choose.Post
+  choose-covered-requires c κs = search needs
 
   choose-without-requires : choose-lts.Need-without-requires choose-claims choose-at choose.Post
   choose-without-requires c κs = search needs
 
-  choose-room-requires : choose-lts.Need-room-requires choose-claims choose-at choose.Post
-  choose-room-requires c κs = search needs
+  choose-left-of-requires : choose-lts.Need-left-of-requires choose-claims choose-at choose.Post
+  choose-left-of-requires c κs = search needs
 
   choose-reduce-requires : choose-lts.Need-reduce-requires choose-claims choose-at choose.Post
   choose-reduce-requires c κs =
-      let s = c .before .before .before .before .before .before .before in (
-        omega (arith, left-count _ _ _ (c .before .before .before .before .without-row .ensures) 768 (omega arith) (s .pre .1 .3)),
-        (s .pre .1 .0, omega arith),
-      )
+      let removed = c .before .before .before .before in
+      let start = removed .before .before .before in
+      (omega (arith, left-size _ _ _ (removed .without-row .ensures) rowLimit (omega arith) (start .pre .1 .3)), search needs)
 
   choose-taking-requires : choose-lts.Need-taking-requires choose-claims choose-at choose.Post
-  choose-taking-requires c κs =
-      let s = c .before .before .before .before .before .before .before .before in
-      (omega arith, c .before .before .before .before .weight .ensures .1, omega arith)
+  choose-taking-requires c κs = search needs
 
   choose-reduce-requires-2 : choose-lts.Need-reduce-requires-2 choose-claims choose-at choose.Post
   choose-reduce-requires-2 c κs =
-      let s = c .before .before .before .before .before .before .before .before .before in (
-        omega (arith, left-count _ _ _ (c .before .before .before .before .before .before .without-row .ensures) 768 (omega arith) (s .pre .1 .3)),
-        (s .pre .1 .0, omega arith),
-      )
+      let removed = c .before .before .before .before .before .before in
+      let start = removed .before .before .before in
+      (omega (arith, left-size _ _ _ (removed .without-row .ensures) rowLimit (omega arith) (start .pre .1 .3)), search needs)
 
   choose-lighter-requires : choose-lts.Need-lighter-requires choose-claims choose-at choose.Post
   choose-lighter-requires c κs = search needs
 
   choose-returns : choose-lts.Need-returns choose-claims choose-at choose.Post
   choose-returns c =
-      let s = c .before .before .before .before .before .before .before .before .before .before .before in
-      found-branches (s .args .words .now) (s .args .weights .now) _ _ _ _ _ _ _ _ _ _ (omega arith) (s .pre .1 .3) (c .before .before .before .before .before .before .before .weight .ensures .0) (c .before .before .before .before .room .ensures)
-      (c .before .before .before .before .before .before .before .before .without-row .ensures) (c .before .before .before .before .before .without .ensures) (c .before .before .before .reduce .ensures) (c .before .before .taking .ensures) _ _ (c .before .reduce2 .ensures) (c .lighter .ensures)
+      let other = c .before in
+      let incumbent = other .before in
+      let found = incumbent .before in
+      let below = found .before in
+      let left = below .before in
+      let covered = left .before in
+      let weighed = covered .before in
+      let removed = weighed .before in
+      let start = removed .before .before .before in
+      found-branches (start .args .words .now) (start .args .weights .now) _ _ _ _ _ _ _ _ _ _ (omega arith) (start .pre .1 .3) (weighed .weight .ensures .0) (below .left-of .ensures)
+      (removed .without-row .ensures) (rw (covered .covered .ensures) at (left .without .ensures)) (found .reduce .ensures) (incumbent .taking .ensures) _ _ (other .reduce2 .ensures)
+      (c .lighter .ensures)
 
-  reduce-reduce-requires : reduce-lts.Need-reduce-requires reduce-claims reduce-at reduce.Post
-  reduce-reduce-requires c κs = c .before .before .pre .1 .0
+  reduce-cyclic-core-requires : reduce-lts.Need-cyclic-core-requires reduce-claims reduce-at reduce.Post
+  reduce-cyclic-core-requires c κs = search needs
 
   reduce-none-below-requires : reduce-lts.Need-none-below-requires reduce-claims reduce-at reduce.Post
   reduce-none-below-requires c κs = search needs
 
   reduce-returns : reduce-lts.Need-returns reduce-claims reduce-at reduce.Post
-  reduce-returns c = found-spent _ _ _ _ _ _ (c .before .before .before .reduce .ensures) _ _ (c .before .if1 .taken) (c .none-below .ensures)
+  reduce-returns c =
+      let spent = c .before in
+      let core = spent .before .before in
+      found-spent _ _ _ _ _ _ (core .cyclic-core .ensures) _ _ (spent .if1 .taken) (c .none-below .ensures)
 
   reduce-is-empty-requires : reduce-lts.Need-is-empty-requires reduce-claims reduce-at reduce.Post
   reduce-is-empty-requires c κs = search needs
 
   reduce-returns-2 : reduce-lts.Need-returns-2 reduce-claims reduce-at reduce.Post
-  reduce-returns-2 c = found-decided _ _ _ _ _ _ (c .before .before .before .before .before .reduce .ensures) (c .before .before .before .if1 .left) (c .before .is-empty .ensures .none (c .if2 .taken))
+  reduce-returns-2 c =
+      let empty = c .before in
+      let unspent = empty .before .before in
+      let core = unspent .before .before in
+      found-decided _ _ _ _ _ _ (core .cyclic-core .ensures) (unspent .if1 .left) (empty .before .is-empty .ensures .none (empty .if2 .taken))
 
   reduce-sub-below : reduce-lts.Need-sub-below reduce-claims reduce-at reduce.Post
   reduce-sub-below c = search needs
 
-  reduce-tighten-requires : reduce-lts.Need-tighten-requires reduce-claims reduce-at reduce.Post
-  reduce-tighten-requires c κs = search needs
+  reduce-branch-point-requires : reduce-lts.Need-branch-point-requires reduce-claims reduce-at reduce.Post
+  reduce-branch-point-requires c κs =
+      let undecided = c .before .before in
+      (search needs, omega arith, undecided .before .is-empty .ensures .some (undecided .if2 .left))
+
+  reduce-row-count-requires : reduce-lts.Need-row-count-requires reduce-claims reduce-at reduce.Post
+  reduce-row-count-requires c κs = search needs
 
   reduce-none-below-requires-2 : reduce-lts.Need-none-below-requires-2 reduce-claims reduce-at reduce.Post
   reduce-none-below-requires-2 c κs = search needs
 
   reduce-returns-3 : reduce-lts.Need-returns-3 reduce-claims reduce-at reduce.Post
-  reduce-returns-3 c = found-cut _ _ _ _ _ _ (c .before .before .before .before .before .before .before .before .before .before .before .reduce .ensures) _ _ (c .before .before .before .before .before .before .before .before .before .if1 .left) (c .before .before .before .tighten .ensures) _ _ (c .before .if3 .taken) (c .none-below2 .ensures)
-
-  reduce-pick-requires : reduce-lts.Need-pick-requires reduce-claims reduce-at reduce.Post
-  reduce-pick-requires c κs = (c .before .before .before .before .before .before .before .before .before .before .before .before .before .before .before .pre .1 .0, c .before .before .before .before .before .before .before .before .is-empty .ensures .some (c .before .before .before .before .before .before .before .if2 .left))
-
-  reduce-none-below-requires-3 : reduce-lts.Need-none-below-requires-3 reduce-claims reduce-at reduce.Post
-  reduce-none-below-requires-3 c κs = search needs
-
-  reduce-returns-4 : reduce-lts.Need-returns-4 reduce-claims reduce-at reduce.Post
-  reduce-returns-4 c = found-uncoverable _ _ _ _ _ _ (c .before .before .before .before .before .before .before .before .before .before .before .before .before .before .before .reduce .ensures) _ _ (c .before .before .before .before .before .before .before .before .before .before .before .before .before .if1 .left) (c .before .before .before .before .before .before .before .tighten .ensures) _ _ _ _ (c .before .before .pick .ensures) (c .before .if4 .taken) (c .none-below3 .ensures)
+  reduce-returns-3 c =
+      let point = c .before .before .before .before in
+      let unspent = point .before .before .before .before .before in
+      let core = unspent .before .before in
+      found-none _ _ _ _ _ _ (core .cyclic-core .ensures) (unspent .if1 .left) _ (point .branch-point .ensures) _ _ (omega arith) (c .none-below2 .ensures)
 
   reduce-choose-requires : reduce-lts.Need-choose-requires reduce-claims reduce-at reduce.Post
   reduce-choose-requires c κs =
-      let s = c .before .before .before .before .before .before .before .before .before .before .before .before .before .before .before .before .before in
-      let r = c .before .before .before .before .before .before .before .before .before .before .before .before .before .before .reduce in
-      let l : c .before .pick .result < length (s .args .words .now) = omega arith in (
-        omega (arith, count-fewer 768 _ (r .result .live) (r .ensures .reduced .fewer), count-fewer 768 _ (c .before .before .before .before .before .before .tighten .result .live) (c .before .before .before .before .before .before .tighten .ensures .kept .fewer)),
-        (s .pre .1 .0, omega arith, l, c .before .pick .ensures .here l),
+      let point = c .before .before .before .before in
+      let unspent = point .before .before .before .before .before in
+      let core = unspent .before .before in
+      let start = core .before .before .before in (
+        omega (
+          arith,
+          size-fewer rowLimit _ (core .cyclic-core .result .live) (core .cyclic-core .ensures .reduced .fewer),
+          size-fewer rowLimit _ (point .branch-point .result .live) (point .branch-point .ensures .kept .fewer),
+        ),
+        (start .pre .1 .0, omega (arith, start .pre .1 .1), omega arith, point .branch-point .ensures .here (omega arith)),
       )
 
-  reduce-add-t20 : reduce-lts.Need-add-t20 reduce-claims reduce-at reduce.Post
-  reduce-add-t20 c = omega (arith, c .before .before .before .before .before .before .before .before .before .before .before .before .before .before .before .before .if1 .left, c .before .before .before .before .before .before .before .before .before .before .before .before .before .before .before .before .before .before .before .before .before .pre .1 .1)
+  reduce-with-taken-requires : reduce-lts.Need-with-taken-requires reduce-claims reduce-at reduce.Post
+  reduce-with-taken-requires c κs =
+      let point = c .before .before .before .before .before in
+      let unspent = point .before .before .before .before .before in
+      let start = unspent .before .before .before .before .before in
+      omega (arith, start .pre .1 .1)
 
-  reduce-either-requires : reduce-lts.Need-either-requires reduce-claims reduce-at reduce.Post
-  reduce-either-requires c κs = search needs
-
-  reduce-wrapping-add-u64-requires : reduce-lts.Need-wrapping-add-u64-requires reduce-claims reduce-at reduce.Post
-  reduce-wrapping-add-u64-requires c κs = search needs
-
-  reduce-wrapping-add-u64-requires-2 : reduce-lts.Need-wrapping-add-u64-requires-2 reduce-claims reduce-at reduce.Post
-  reduce-wrapping-add-u64-requires-2 c κs = search needs
-
-  reduce-returns-5 : reduce-lts.Need-returns-5 reduce-claims reduce-at reduce.Post
-  reduce-returns-5 c = found-chosen _ _ _ _ _ _ (c .before .before .before .before .before .before .before .before .before .before .before .before .before .before .before .before .before .before .before .before .before .reduce .ensures) _ _ (c .before .before .before .before .before .before .before .before .before .before .before .before .before .before .before .before .before .before .before .if1 .left) (c .before .before .before .before .before .before .before .before .before .before .before .before .before .tighten .ensures) _ _ _ (c .before .before .before .before .before .before .choose .ensures) (c .before .before .either .ensures)
+  reduce-returns-4 : reduce-lts.Need-returns-4 reduce-claims reduce-at reduce.Post
+  reduce-returns-4 c =
+      let chosen = c .before in
+      let point = chosen .before .before .before .before .before in
+      let unspent = point .before .before .before .before .before in
+      let core = unspent .before .before in
+      found-chosen _ _ _ _ _ _ (core .cyclic-core .ensures) (unspent .if1 .left) _ (point .branch-point .ensures) _ _ (chosen .choose .ensures) (c .with-taken .ensures)
 
 pub +choose+reduce-spec : {M : Type 1} → statement M
 +choose+reduce-spec =
@@ -203,31 +216,25 @@ pub +choose+reduce-spec : {M : Type 1} → statement M
     (λ t. choose-lts.spec (choose-claims t) (choose-at t) choose.Post
     (choose-without-row-requires t)
     (choose-weight-requires t)
-    (choose-mul-without t)
-    (choose-shared-slice-read-without t)
+    (choose-covered-requires t)
     (choose-without-requires t)
-    (choose-room-requires t)
+    (choose-left-of-requires t)
     (choose-reduce-requires t)
     (choose-taking-requires t)
     (choose-reduce-requires-2 t)
     (choose-lighter-requires t)
     (choose-returns t))
     λ t. reduce-lts.spec (reduce-claims t) (reduce-at t) reduce.Post
-    (reduce-reduce-requires t)
+    (reduce-cyclic-core-requires t)
     (reduce-none-below-requires t)
     (reduce-returns t)
     (reduce-is-empty-requires t)
     (reduce-returns-2 t)
     (reduce-sub-below t)
-    (reduce-tighten-requires t)
+    (reduce-branch-point-requires t)
+    (reduce-row-count-requires t)
     (reduce-none-below-requires-2 t)
     (reduce-returns-3 t)
-    (reduce-pick-requires t)
-    (reduce-none-below-requires-3 t)
-    (reduce-returns-4 t)
     (reduce-choose-requires t)
-    (reduce-add-t20 t)
-    (reduce-either-requires t)
-    (reduce-wrapping-add-u64-requires t)
-    (reduce-wrapping-add-u64-requires-2 t)
-    (reduce-returns-5 t)
+    (reduce-with-taken-requires t)
+    (reduce-returns-4 t)

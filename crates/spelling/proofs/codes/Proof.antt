@@ -3,7 +3,7 @@ use Prim.Native.Nat.{_^_}
 use native.Mathlib.Omega.{arith}
 use borrow.Author.Needs.{needs}
 use Rattle.numbers.specs.Below.{run}
-use Rattle.cube.proofs.Below.{run-at}
+use Rattle.numbers.proofs.Below.{run-at}
 use Rattle.spelling.proofs.codes.Statement.{statement}
 use Rattle.spelling.proofs.codes.Tie as tie
 

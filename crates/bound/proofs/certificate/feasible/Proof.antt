@@ -3,20 +3,22 @@ use borrow.Author.Needs.{needs}
 use mathlib.Core.Path.{refl}
 use Prim.Native.Nat.{ℕ, _≤_, _<_, _-_}
 use native.Mathlib.Omega.{arith}
-use lib.ListN.{length}
 use borrow.Author.Tests.{not-false}
 use Rattle.matrix.specs.Sets.{Member}
-use Rattle.covering.proofs.Flags.{clash}
+use Rattle.numbers.proofs.Flags.{clash}
 use Rattle.matrix.proofs.Walks.{all-first, all-turn}
-use Rattle.bound.specs.Bound.{Pays}
+use Rattle.bound.specs.Steps.{Pays}
 use Rattle.bound.proofs.certificate.feasible.Statement.{statement}
 use Rattle.bound.proofs.certificate.feasible.Tie as tie
 
 abbrev Inv-loop : tie.InvT-loop
-Inv-loop words weights live undecided prices i₀ i = (i ≤ length words) × ((j : ℕ) → j < i → Member live j → Pays words weights undecided prices j)
+Inv-loop words weights live undecided prices end i₀ i = (i ≤ end) × ((j : ℕ) → j < i → Member live j → Pays words weights undecided prices j)
 
 abbrev μ-loop : tie.MeasureT-loop
-μ-loop words weights live undecided prices i₀ i = length words - i
+μ-loop words weights live undecided prices end i₀ i = end - i
+
+row-count-requires : tie.Need-row-count-requires Inv-loop μ-loop
+row-count-requires c κs = search needs
 
 next-requires : tie.Need-next-requires Inv-loop μ-loop
 next-requires c κs = search needs
@@ -51,6 +53,7 @@ feasible-spec =
     (tie.spec
     Inv-loop
     μ-loop
+    row-count-requires
     next-requires
     loop-holds
     pays-requires

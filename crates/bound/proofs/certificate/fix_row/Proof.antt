@@ -5,17 +5,8 @@ use Rattle.bound.proofs.Pricing.{kept-without}
 use Rattle.bound.proofs.certificate.fix_row.Statement.{statement}
 use Rattle.bound.proofs.certificate.fix_row.Tie as tie
 
-mul-both : tie.Need-mul-both
-mul-both c = search needs
-
-shared-slice-read-both : tie.Need-shared-slice-read-both
-shared-slice-read-both c = search needs
-
-both-requires : tie.Need-both-requires
-both-requires c κs = search needs
-
-value-requires : tie.Need-value-requires
-value-requires c κs = search needs
+row-worth-requires : tie.Need-row-worth-requires
+row-worth-requires c κs = search needs
 
 add-if1 : tie.Need-add-if1
 add-if1 c = search needs
@@ -31,10 +22,9 @@ without-row-requires c κs = search needs
 
 returns : tie.Need-returns
 returns c =
-    let s = c .before .before .before .before .before .before .before .before in
-    let a = s .args in
-    kept-without (a .words .now) (a .weights .now) _ _ (a .prices .now) _ _ _ _ _ _ (c .without-row .ensures) (c .before .before .before .before .both .ensures) (c .before .before .before .value .ensures .is) (s .pre .3 .is) (s .pre .4)
-    (omega (arith, c .before .if1 .taken, c .before .before .weight .ensures .0))
+    let p = c .before .before .before in
+    let s = p .before .before .before in
+    kept-without _ _ (s .pre .0) _ _ (c .without-row .ensures) (p .row-worth .ensures .is) (omega arith)
 
 returns-2 : tie.Need-returns-2
 returns-2 c = search needs
@@ -42,14 +32,4 @@ returns-2 c = search needs
 pub fix-row-spec : {M : Type 1} → statement M
 fix-row-spec =
     tie.close
-    (tie.spec
-    mul-both
-    shared-slice-read-both
-    both-requires
-    value-requires
-    add-if1
-    weight-requires
-    add-if1-2
-    without-row-requires
-    returns
-    returns-2)
+    (tie.spec row-worth-requires add-if1 weight-requires add-if1-2 without-row-requires returns returns-2)

@@ -10,13 +10,13 @@ weight-range-requires : tie.Need-weight-range-requires
 weight-range-requires c κs = search needs
 
 returns : tie.Need-returns
-returns c = λ u b. b
+returns c = search needs
 
 sub-raised : tie.Need-sub-raised
 sub-raised c = search needs
 
 add-raised : tie.Need-add-raised
-add-raised c = omega (arith, c .before .weight-range .ensures .small)
+add-raised c = search needs
 
 div-raised : tie.Need-div-raised
 div-raised c = search needs
@@ -25,15 +25,15 @@ mul-raised : tie.Need-mul-raised
 mul-raised c =
     let w = c .before .weight-range in
     let m = rows-small (c .before .before .before .before .args .low) (w .result .least) (w .result .most) (w .ensures .positive) (c .if1 .left) in
-    omega (arith, w .ensures .small)
+    omega arith
 
 returns-2 : tie.Need-returns-2
 returns-2 c =
     let a = c .before .before .before .before .before .args in
-    λ u b. rounded-low (a .words .now) (a .weights .now) (a .live .now) u _ _ _ (c .before .before .weight-range .ensures) b
+    λ u b. rounded-low (a .words .now) _ _ u _ _ _ (c .before .before .weight-range .ensures) b
 
 returns-3 : tie.Need-returns-3
-returns-3 c = λ u b. b
+returns-3 c = search needs
 
 pub rounded-spec : {M : Type 1} → statement M
 rounded-spec =

@@ -2,20 +2,22 @@
 use borrow.Author.Needs.{needs}
 use Prim.Native.Nat.{_≤_, _-_}
 use native.Mathlib.Omega.{arith}
-use lib.ListN.{length}
 use Rattle.matrix.proofs.Walks.{all-first, all-turn}
-use Rattle.bound.specs.Bound.{Ranges}
+use Rattle.bound.specs.Steps.{Ranges}
 use Rattle.bound.proofs.certificate.weight_range.Statement.{statement}
 use Rattle.bound.proofs.certificate.weight_range.Tie as tie
 
 abbrev Inv-loop : tie.InvT-loop
-Inv-loop words weights live least₀ most₀ i₀ least most i = (i ≤ length words) × Ranges weights live i least most
+Inv-loop words weights live least₀ most₀ end i₀ least most i = (i ≤ end) × Ranges weights live i least most
 
 abbrev μ-loop : tie.MeasureT-loop
-μ-loop words weights live least₀ most₀ i₀ least most i = length words - i
+μ-loop words weights live least₀ most₀ end i₀ least most i = end - i
 
 cast-least : tie.Need-cast-least Inv-loop μ-loop
 cast-least c = search needs
+
+row-count-requires : tie.Need-row-count-requires Inv-loop μ-loop
+row-count-requires c κs = search needs
 
 next-requires : tie.Need-next-requires Inv-loop μ-loop
 next-requires c κs = search needs
@@ -44,16 +46,13 @@ loop-less c = search needs
 loop-again : tie.Need-loop-again Inv-loop μ-loop
 loop-again c =
     let r = c .before .before .before .before .before .loop .inv .1 in
-    let n = c .next2 .ensures in
-    let s = c .before .before .smaller .ensures in
-    let m = c .before .larger .ensures in
-    let w = c .before .before .before .weight .ensures in (
+    let n = c .next2 .ensures in (
       search needs,
       record {
-        positive = omega (arith, r .positive, m);
-        small = omega (arith, r .small, s, m, w .1);
-        above = all-turn _ _ _ (λ j l h. omega (arith, r .above j l h, s)) (omega (arith, s, w .0)) n;
-        below = all-turn _ _ _ (λ j l h. omega (arith, r .below j l h, m)) (omega (arith, m, w .0)) n;
+        positive = omega arith;
+        small = omega arith;
+        above = all-turn _ _ _ (λ j l h. omega (arith, r .above j l h)) (omega arith) n;
+        below = all-turn _ _ _ (λ j l h. omega (arith, r .below j l h)) (omega arith) n;
       },
     )
 
@@ -69,6 +68,7 @@ weight-range-spec =
     Inv-loop
     μ-loop
     cast-least
+    row-count-requires
     next-requires
     loop-holds
     weight-requires

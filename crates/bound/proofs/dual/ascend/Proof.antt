@@ -1,14 +1,15 @@
 -- `bound::dual::ascend` is safe and ends: the level moves on. Assumes nothing.
 use borrow.Author.Needs.{needs}
 use Prim.Native.Nat.{_≤_, _-_}
+use Rattle.bound.specs.Steps.{levelCount}
 use Rattle.bound.proofs.dual.ascend.Statement.{statement}
 use Rattle.bound.proofs.dual.ascend.Tie as tie
 
 abbrev Inv-loop : tie.InvT-loop
-Inv-loop by-column prices₀ slack₀ end undecided levels level₀ prices slack level = level ≤ 16
+Inv-loop by-column prices₀ slack₀ end undecided levels level₀ prices slack level = level ≤ levelCount
 
 abbrev μ-loop : tie.MeasureT-loop
-μ-loop by-column prices₀ slack₀ end undecided levels level₀ prices slack level = 16 - level
+μ-loop by-column prices₀ slack₀ end undecided levels level₀ prices slack level = levelCount - level
 
 by-rows-requires : tie.Need-by-rows-requires Inv-loop μ-loop
 by-rows-requires c κs = search needs

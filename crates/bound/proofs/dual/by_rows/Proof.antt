@@ -1,14 +1,15 @@
 -- `bound::dual::by_rows` is safe and ends: the column moves on. Assumes nothing.
 use borrow.Author.Needs.{needs}
 use Prim.Native.Nat.{_≤_, _-_}
+use Rattle.matrix.specs.Sets.{columnLimit}
 use Rattle.bound.proofs.dual.by_rows.Statement.{statement}
 use Rattle.bound.proofs.dual.by_rows.Tie as tie
 
 abbrev Inv-loop : tie.InvT-loop
-Inv-loop by-column end undecided levels₀ c₀ levels c = c ≤ 64
+Inv-loop by-column end undecided levels₀ c₀ levels c = c ≤ columnLimit
 
 abbrev μ-loop : tie.MeasureT-loop
-μ-loop by-column end undecided levels₀ c₀ levels c = 64 - c
+μ-loop by-column end undecided levels₀ c₀ levels c = columnLimit - c
 
 next-requires : tie.Need-next-requires Inv-loop μ-loop
 next-requires c κs = search needs
@@ -25,8 +26,8 @@ index-1-size c = search needs
 size-requires : tie.Need-size-requires Inv-loop μ-loop
 size-requires c κs = search needs
 
-at-most-15-requires : tie.Need-at-most-15-requires Inv-loop μ-loop
-at-most-15-requires c κs = search needs
+level-of-requires : tie.Need-level-of-requires Inv-loop μ-loop
+level-of-requires c κs = search needs
 
 mul-either : tie.Need-mul-either Inv-loop μ-loop
 mul-either c = search needs
@@ -72,7 +73,7 @@ by-rows-spec =
     mul-size
     index-1-size
     size-requires
-    at-most-15-requires
+    level-of-requires
     mul-either
     array-read-either
     only-requires

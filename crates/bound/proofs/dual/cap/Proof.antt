@@ -1,14 +1,15 @@
 -- `bound::dual::cap` is safe and ends: the column moves on. Assumes nothing.
 use borrow.Author.Needs.{needs}
 use Prim.Native.Nat.{_≤_, _-_}
+use Rattle.matrix.specs.Sets.{columnLimit}
 use Rattle.bound.proofs.dual.cap.Statement.{statement}
 use Rattle.bound.proofs.dual.cap.Tie as tie
 
 abbrev Inv-loop : tie.InvT-loop
-Inv-loop prices₀ set share c₀ prices c = c ≤ 64
+Inv-loop prices₀ set share c₀ prices c = c ≤ columnLimit
 
 abbrev μ-loop : tie.MeasureT-loop
-μ-loop prices₀ set share c₀ prices c = 64 - c
+μ-loop prices₀ set share c₀ prices c = columnLimit - c
 
 next-requires : tie.Need-next-requires Inv-loop μ-loop
 next-requires c κs = search needs
@@ -16,14 +17,14 @@ next-requires c κs = search needs
 loop-holds : tie.Need-loop-holds Inv-loop μ-loop
 loop-holds c = search needs
 
-mul-smaller : tie.Need-mul-smaller Inv-loop μ-loop
-mul-smaller c = search needs
+mul-lower : tie.Need-mul-lower Inv-loop μ-loop
+mul-lower c = search needs
 
-element-copy-out-smaller : tie.Need-element-copy-out-smaller Inv-loop μ-loop
-element-copy-out-smaller c = search needs
+element-copy-out-lower : tie.Need-element-copy-out-lower Inv-loop μ-loop
+element-copy-out-lower c = search needs
 
-smaller-requires : tie.Need-smaller-requires Inv-loop μ-loop
-smaller-requires c κs = search needs
+lower-requires : tie.Need-lower-requires Inv-loop μ-loop
+lower-requires c κs = search needs
 
 mul-prices : tie.Need-mul-prices Inv-loop μ-loop
 mul-prices c = search needs
@@ -54,9 +55,9 @@ cap-spec =
     μ-loop
     next-requires
     loop-holds
-    mul-smaller
-    element-copy-out-smaller
-    smaller-requires
+    mul-lower
+    element-copy-out-lower
+    lower-requires
     mul-prices
     element-write-prices
     add-next

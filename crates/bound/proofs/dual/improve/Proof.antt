@@ -1,17 +1,18 @@
 -- `bound::dual::improve` is safe and ends: the column moves on. Assumes nothing.
 use borrow.Author.Needs.{needs}
 use Prim.Native.Nat.{_≤_, _-_}
+use Rattle.matrix.specs.Sets.{columnLimit}
 use Rattle.bound.proofs.dual.improve.Statement.{statement}
 use Rattle.bound.proofs.dual.improve.Tie as tie
 
 abbrev Inv-loop : tie.InvT-loop
-Inv-loop words by-column prices₀ slack₀ undecided worth₀ c₀ prices slack worth c = c ≤ 64
+Inv-loop words by-column prices₀ slack₀ undecided worth₀ c₀ prices slack worth c = c ≤ columnLimit
 
 abbrev μ-loop : tie.MeasureT-loop
-μ-loop words by-column prices₀ slack₀ undecided worth₀ c₀ prices slack worth c = 64 - c
+μ-loop words by-column prices₀ slack₀ undecided worth₀ c₀ prices slack worth c = columnLimit - c
 
-value-requires : tie.Need-value-requires Inv-loop μ-loop
-value-requires c κs = search needs
+worth-requires : tie.Need-worth-requires Inv-loop μ-loop
+worth-requires c κs = search needs
 
 next-requires : tie.Need-next-requires Inv-loop μ-loop
 next-requires c κs = search needs
@@ -43,7 +44,7 @@ improve-spec =
     (tie.spec
     Inv-loop
     μ-loop
-    value-requires
+    worth-requires
     next-requires
     loop-holds
     retry-requires

@@ -16,14 +16,14 @@ next-requires c κs = search needs
 loop-holds : tie.Need-loop-holds Inv-loop μ-loop
 loop-holds c = search needs
 
-mul-smaller : tie.Need-mul-smaller Inv-loop μ-loop
-mul-smaller c = search needs
+mul-lower : tie.Need-mul-lower Inv-loop μ-loop
+mul-lower c = search needs
 
-element-copy-out-smaller : tie.Need-element-copy-out-smaller Inv-loop μ-loop
-element-copy-out-smaller c = search needs
+element-copy-out-lower : tie.Need-element-copy-out-lower Inv-loop μ-loop
+element-copy-out-lower c = search needs
 
-smaller-requires : tie.Need-smaller-requires Inv-loop μ-loop
-smaller-requires c κs = search needs
+lower-requires : tie.Need-lower-requires Inv-loop μ-loop
+lower-requires c κs = search needs
 
 returns : tie.Need-returns Inv-loop μ-loop
 returns c = search needs
@@ -51,9 +51,9 @@ least-slack-spec =
     μ-loop
     next-requires
     loop-holds
-    mul-smaller
-    element-copy-out-smaller
-    smaller-requires
+    mul-lower
+    element-copy-out-lower
+    lower-requires
     returns
     add-next
     next-requires-2

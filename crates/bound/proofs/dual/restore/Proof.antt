@@ -1,14 +1,15 @@
 -- `bound::dual::restore` is safe and ends: the column moves on. Assumes nothing.
 use borrow.Author.Needs.{needs}
 use Prim.Native.Nat.{_≤_, _-_}
+use Rattle.matrix.specs.Sets.{columnLimit}
 use Rattle.bound.proofs.dual.restore.Statement.{statement}
 use Rattle.bound.proofs.dual.restore.Tie as tie
 
 abbrev Inv-loop : tie.InvT-loop
-Inv-loop by-column prices₀ slack₀ end set saved c₀ prices slack c = c ≤ 64
+Inv-loop by-column prices₀ slack₀ end set saved c₀ prices slack c = c ≤ columnLimit
 
 abbrev μ-loop : tie.MeasureT-loop
-μ-loop by-column prices₀ slack₀ end set saved c₀ prices slack c = 64 - c
+μ-loop by-column prices₀ slack₀ end set saved c₀ prices slack c = columnLimit - c
 
 next-requires : tie.Need-next-requires Inv-loop μ-loop
 next-requires c κs = search needs

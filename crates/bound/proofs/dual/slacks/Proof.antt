@@ -1,15 +1,17 @@
 -- `bound::dual::slacks` is safe and ends: the row moves on. Assumes nothing.
 use borrow.Author.Needs.{needs}
 use Prim.Native.Nat.{_≤_, _-_}
-use lib.ListN.{length}
 use Rattle.bound.proofs.dual.slacks.Statement.{statement}
 use Rattle.bound.proofs.dual.slacks.Tie as tie
 
 abbrev Inv-loop : tie.InvT-loop
-Inv-loop words weights live undecided prices slack₀ i₀ slack i = i ≤ length words
+Inv-loop words weights live undecided prices slack₀ end i₀ slack i = i ≤ end
 
 abbrev μ-loop : tie.MeasureT-loop
-μ-loop words weights live undecided prices slack₀ i₀ slack i = length words - i
+μ-loop words weights live undecided prices slack₀ end i₀ slack i = end - i
+
+row-count-requires : tie.Need-row-count-requires Inv-loop μ-loop
+row-count-requires c κs = search needs
 
 next-requires : tie.Need-next-requires Inv-loop μ-loop
 next-requires c κs = search needs
@@ -17,26 +19,17 @@ next-requires c κs = search needs
 loop-holds : tie.Need-loop-holds Inv-loop μ-loop
 loop-holds c = search needs
 
-mul-both : tie.Need-mul-both Inv-loop μ-loop
-mul-both c = search needs
+row-worth-requires : tie.Need-row-worth-requires Inv-loop μ-loop
+row-worth-requires c κs = search needs
 
-shared-slice-read-both : tie.Need-shared-slice-read-both Inv-loop μ-loop
-shared-slice-read-both c = search needs
+mul-slack-of : tie.Need-mul-slack-of Inv-loop μ-loop
+mul-slack-of c = search needs
 
-both-requires : tie.Need-both-requires Inv-loop μ-loop
-both-requires c κs = search needs
+shared-slice-read-slack-of : tie.Need-shared-slice-read-slack-of Inv-loop μ-loop
+shared-slice-read-slack-of c = search needs
 
-value-requires : tie.Need-value-requires Inv-loop μ-loop
-value-requires c κs = search needs
-
-mul-room : tie.Need-mul-room Inv-loop μ-loop
-mul-room c = search needs
-
-shared-slice-read-room : tie.Need-shared-slice-read-room Inv-loop μ-loop
-shared-slice-read-room c = search needs
-
-room-requires : tie.Need-room-requires Inv-loop μ-loop
-room-requires c κs = search needs
+slack-of-requires : tie.Need-slack-of-requires Inv-loop μ-loop
+slack-of-requires c κs = search needs
 
 mul-slack : tie.Need-mul-slack Inv-loop μ-loop
 mul-slack c = search needs
@@ -65,15 +58,13 @@ slacks-spec =
     (tie.spec
     Inv-loop
     μ-loop
+    row-count-requires
     next-requires
     loop-holds
-    mul-both
-    shared-slice-read-both
-    both-requires
-    value-requires
-    mul-room
-    shared-slice-read-room
-    room-requires
+    row-worth-requires
+    mul-slack-of
+    shared-slice-read-slack-of
+    slack-of-requires
     mul-slack
     array-write-slack
     add-next

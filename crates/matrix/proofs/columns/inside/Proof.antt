@@ -4,7 +4,7 @@ use mathlib.Core.Path.{ap, sym, _∙_}
 use mathlib.Core.Bool.{Bool, _&&_}
 use Prim.Native.Nat.{ℕ}
 use borrow.Author.Tests.{eqb-true, eqb-false}
-use Rattle.matrix.specs.Sets.{has}
+use Rattle.matrix.specs.Sets.{columnLimit, has}
 use Rattle.matrix.proofs.Bits.{has-and, first-lacking}
 use Rattle.matrix.proofs.columns.inside.Statement.{statement}
 use Rattle.matrix.proofs.columns.inside.Tie as tie
@@ -15,7 +15,7 @@ returns c =
     let b = c .args .b in
     record {
       all = λ e x h. ap (λ (t : Bool). t && has b x) (sym h) ∙ sym (has-and a b x) ∙ ap (λ (y : ℕ). has y x) (eqb-true _ _ e) ∙ h;
-      some = λ e. first-lacking 64 a b (c .fits .a .fits) (eqb-false _ _ e);
+      some = λ e. first-lacking columnLimit a b (c .fits .a .fits) (eqb-false _ _ e);
     }
 
 pub inside-spec : {M : Type 1} → statement M

@@ -3,6 +3,7 @@
 use native.Mathlib.Omega.{arith}
 use Prim.Native.Nat.{_/_, _^_}
 use lib.Count.{trailing-le}
+use Rattle.matrix.specs.Sets.{columnLimit}
 use Rattle.matrix.proofs.Bits.{next-none, next-some}
 use borrow.Author.Needs.{needs}
 use Rattle.matrix.proofs.columns.next.Statement.{statement}
@@ -18,10 +19,10 @@ returns-2 : tie.Need-returns-2
 returns-2 c = next-none (c .before .before .args .set) (c .before .before .args .from) (search needs) (c .if2 .taken)
 
 cast-result : tie.Need-cast-result
-cast-result c = omega (arith, trailing-le 64 (c .before .before .args .set / 2 ^ c .before .before .args .from))
+cast-result c = omega (arith, trailing-le columnLimit (c .before .before .args .set / 2 ^ c .before .before .args .from))
 
 add-result : tie.Need-add-result
-add-result c = omega (arith, trailing-le 64 (c .before .before .args .set / 2 ^ c .before .before .args .from))
+add-result c = omega (arith, trailing-le columnLimit (c .before .before .args .set / 2 ^ c .before .before .args .from))
 
 returns-3 : tie.Need-returns-3
 returns-3 c = next-some (c .before .before .args .set) (c .before .before .args .from) (c .before .before .fits .set .fits) (c .if2 .left)

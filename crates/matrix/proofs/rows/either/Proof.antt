@@ -4,6 +4,7 @@ use mathlib.Core.Path.{refl}
 use mathlib.Core.Bool.{_||_}
 use Prim.Native.Nat.{_-_}
 use native.Mathlib.Omega.{arith}
+use Rattle.matrix.specs.Sets.{rowWords}
 use Rattle.matrix.proofs.Members.{Joined, joined-none, joined-more, joined-all}
 use Rattle.matrix.proofs.rows.either.Statement.{statement}
 use Rattle.matrix.proofs.rows.either.Tie as tie
@@ -12,7 +13,7 @@ abbrev Inv-loop : tie.InvT-loop
 Inv-loop b set₀ k₀ set k = Joined _||_ set₀ b set k
 
 abbrev μ-loop : tie.MeasureT-loop
-μ-loop b set₀ k₀ set k = 12 - k
+μ-loop b set₀ k₀ set k = rowWords - k
 
 loop-holds : tie.Need-loop-holds Inv-loop μ-loop
 loop-holds c = joined-none _ _ _ (omega arith)

@@ -4,16 +4,16 @@ use mathlib.Core.Path.{_≡_}
 use mathlib.Core.Bool.{false}
 use Prim.Native.Nat.{ℕ, _≤_, _<_, _-_}
 use native.Mathlib.Omega.{arith}
-use Rattle.matrix.specs.Sets.{member}
+use Rattle.matrix.specs.Sets.{rowLimit, member}
 use Rattle.matrix.proofs.Members.{passed-word, next-found, next-past}
 use Rattle.matrix.proofs.rows.next.Statement.{statement}
 use Rattle.matrix.proofs.rows.next.Tie as tie
 
 abbrev Inv-loop : tie.InvT-loop
-Inv-loop set from end i₀ i = (from ≤ i) × (i ≤ 768) × ((j : ℕ) → from ≤ j → j < i → member set j ≡ false)
+Inv-loop set from end i₀ i = (from ≤ i) × (i ≤ rowLimit) × ((j : ℕ) → from ≤ j → j < i → member set j ≡ false)
 
 abbrev μ-loop : tie.MeasureT-loop
-μ-loop set from end i₀ i = 768 - i
+μ-loop set from end i₀ i = rowLimit - i
 
 loop-holds : tie.Need-loop-holds Inv-loop μ-loop
 loop-holds c = (omega arith, omega arith, λ j l m. absurd (omega arith))

@@ -4,14 +4,14 @@ use mathlib.Core.Path.{_≡_, ap, _∙_}
 use mathlib.Core.Bool.{true}
 use Prim.Native.Nat.{ℕ, _+_, _≤_, _<_, _-_}
 use native.Mathlib.Omega.{arith}
-use Rattle.covering.specs.Cover.{count}
+use Rattle.covering.specs.Weighted.{setSize}
 use Rattle.matrix.specs.Sets.{member}
 use Rattle.matrix.proofs.Walks.{sum-first, sum-turn}
 use Rattle.matrix.proofs.rows.size.Statement.{statement}
 use Rattle.matrix.proofs.rows.size.Tie as tie
 
 abbrev Inv-loop : tie.InvT-loop
-Inv-loop set end n₀ i₀ n i = (i ≤ end) × (i < end → member set i ≡ true) × (n ≤ i) × (n ≡ count i (member set))
+Inv-loop set end n₀ i₀ n i = (i ≤ end) × (i < end → member set i ≡ true) × (n ≤ i) × (n ≡ setSize i (member set))
 
 abbrev μ-loop : tie.MeasureT-loop
 μ-loop set end n₀ i₀ n i = end - i
@@ -44,7 +44,7 @@ returns : tie.Need-returns Inv-loop μ-loop
 returns c =
     let a = c .before .before .before .args in
     let e : c .before .loop .i ≡ a .end = omega arith in
-    c .before .loop .inv .3 ∙ ap (λ (x : ℕ). count x (member (a .set .now))) e
+    c .before .loop .inv .3 ∙ ap (λ (x : ℕ). setSize x (member (a .set .now))) e
 
 pub size-spec : {M : Type 1} → statement M
 size-spec =

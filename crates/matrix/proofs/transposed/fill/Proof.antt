@@ -1,15 +1,20 @@
 -- `matrix::transposed::fill` is safe and ends: the row moves on. Assumes nothing.
 use borrow.Author.Needs.{needs}
 use Prim.Native.Nat.{_≤_, _-_}
-use lib.ListN.{length}
 use Rattle.matrix.proofs.transposed.fill.Statement.{statement}
 use Rattle.matrix.proofs.transposed.fill.Tie as tie
 
 abbrev Inv-loop : tie.InvT-loop
-Inv-loop words live undecided by-column₀ i₀ by-column i = i ≤ length words
+Inv-loop words live undecided by-column₀ end i₀ by-column i = i ≤ end
 
 abbrev μ-loop : tie.MeasureT-loop
-μ-loop words live undecided by-column₀ i₀ by-column i = length words - i
+μ-loop words live undecided by-column₀ end i₀ by-column i = end - i
+
+none-requires : tie.Need-none-requires Inv-loop μ-loop
+none-requires c κs = search needs
+
+row-count-requires : tie.Need-row-count-requires Inv-loop μ-loop
+row-count-requires c κs = search needs
 
 next-requires : tie.Need-next-requires Inv-loop μ-loop
 next-requires c κs = search needs
@@ -17,11 +22,8 @@ next-requires c κs = search needs
 loop-holds : tie.Need-loop-holds Inv-loop μ-loop
 loop-holds c = search needs
 
-mul-both : tie.Need-mul-both Inv-loop μ-loop
-mul-both c = search needs
-
-shared-slice-read-both : tie.Need-shared-slice-read-both Inv-loop μ-loop
-shared-slice-read-both c = search needs
+covered-requires : tie.Need-covered-requires Inv-loop μ-loop
+covered-requires c κs = search needs
 
 both-requires : tie.Need-both-requires Inv-loop μ-loop
 both-requires c κs = search needs
@@ -50,10 +52,11 @@ fill-spec =
     (tie.spec
     Inv-loop
     μ-loop
+    none-requires
+    row-count-requires
     next-requires
     loop-holds
-    mul-both
-    shared-slice-read-both
+    covered-requires
     both-requires
     note-requires
     add-next

@@ -1,14 +1,15 @@
 -- `matrix::transposed::note` is safe and ends: the column moves on. Assumes nothing.
 use borrow.Author.Needs.{needs}
 use Prim.Native.Nat.{_≤_, _-_}
+use Rattle.matrix.specs.Sets.{columnLimit}
 use Rattle.matrix.proofs.transposed.note.Statement.{statement}
 use Rattle.matrix.proofs.transposed.note.Tie as tie
 
 abbrev Inv-loop : tie.InvT-loop
-Inv-loop by-column₀ set i k row c₀ by-column c = c ≤ 64
+Inv-loop by-column₀ set i k row c₀ by-column c = c ≤ columnLimit
 
 abbrev μ-loop : tie.MeasureT-loop
-μ-loop by-column₀ set i k row c₀ by-column c = 64 - c
+μ-loop by-column₀ set i k row c₀ by-column c = columnLimit - c
 
 only-requires : tie.Need-only-requires Inv-loop μ-loop
 only-requires c κs = search needs

@@ -3,8 +3,8 @@
 use borrow.Author.Needs.{needs}
 use mathlib.Core.List.{List}
 use Prim.Native.Nat.{ℕ, _≤_, _<_, _-_}
-use Rattle.matrix.specs.Sets.{has, In}
-use Rattle.covering.proofs.Flags.{kept-of}
+use Rattle.matrix.specs.Sets.{columnLimit, has, In}
+use Rattle.numbers.proofs.Flags.{kept-of}
 use Rattle.reduction.specs.Reduction.{Keeps}
 use Rattle.reduction.proofs.Narrowing.{drop-along}
 use Rattle.reduction.proofs.Steps.{keeps-all, keeps-then}
@@ -13,10 +13,10 @@ use Rattle.reduction.proofs.column_dominance.drop_columns.Tie as tie
 
 abbrev Inv-loop : tie.InvT-loop
 Inv-loop words live undecided along kept₀ d₀ kept d =
-    (d ≤ 64) × (d < 64 → In kept d) × ((x : ℕ) → In kept x → In undecided x) × ((weights : List ℕ) → Keeps words weights live undecided live kept)
+    (d ≤ columnLimit) × (d < columnLimit → In kept d) × ((x : ℕ) → In kept x → In undecided x) × ((weights : List ℕ) → Keeps words weights live undecided live kept)
 
 abbrev μ-loop : tie.MeasureT-loop
-μ-loop words live undecided along kept₀ d₀ kept d = 64 - d
+μ-loop words live undecided along kept₀ d₀ kept d = columnLimit - d
 
 come-along-requires : tie.Need-come-along-requires Inv-loop μ-loop
 come-along-requires c κs = search needs
@@ -53,13 +53,17 @@ loop-less c = search needs
 
 loop-again : tie.Need-loop-again Inv-loop μ-loop
 loop-again c =
-    let l = c .before .before .before .before .before .loop in
-    let a = c .before .before .before .before .before .before .before .before .before .args in (
+    let head = c .before .before .before .before .before in
+    let along = head .before .before in
+    let words = along .before .before .args .words .now in
+    let spare = c .before .before .without in
+    let kept = c .before .without2 .ensures in (
       search needs,
       c .next2 .ensures .here,
-      λ x h. l .inv .2 x (kept-of (has (l .kept) x) (has (c .before .before .without .result) x) (c .before .without2 .ensures x) h .0),
-      λ weights. keeps-then (a .words .now) weights _ _ _ _ _ _ (l .inv .3 weights)
-          (drop-along (a .words .now) weights _ (c .before .before .before .before .before .before .before .come-along .result) _ _ _ _ _ _ (c .before .before .before .before .before .before .before .come-along .ensures) (l .inv .2) (l .inv .1 (c .before .before .before .before .loop-test .taken)) (c .before .before .before .only .ensures) (c .before .before .without .ensures) (c .before .without2 .ensures)),
+      λ x h. head .loop .inv .2 x (kept-of (has (head .loop .kept) x) (has (spare .result) x) (kept x) h .0),
+      λ weights. keeps-then words weights _ _ _ _ _ _ (head .loop .inv .3 weights)
+          (drop-along words weights _ (along .come-along .result) _ _ _ _ _ _ (along .come-along .ensures) (head .loop .inv .2)
+          (head .loop .inv .1 (c .before .before .before .before .loop-test .taken)) (c .before .before .before .only .ensures) (spare .ensures) kept),
     )
 
 returns : tie.Need-returns Inv-loop μ-loop

@@ -1,15 +1,17 @@
--- `reduction::column_dominance::narrow` meets its contract. The invariant: nothing was added, and the columns of the set before c are cut down. Assumes nothing.
+-- `reduction::column_dominance::narrow` meets its contract. The invariant: nothing was added, and the companions of each column of the set before c are cut
+-- down. Assumes nothing.
 use borrow.Author.Needs.{needs}
 use Prim.Native.Nat.{_≤_, _-_}
+use Rattle.matrix.specs.Sets.{columnLimit}
 use Rattle.reduction.proofs.Narrowing.{Cut, cut-none, cut-more, cut-all}
 use Rattle.reduction.proofs.column_dominance.narrow.Statement.{statement}
 use Rattle.reduction.proofs.column_dominance.narrow.Tie as tie
 
 abbrev Inv-loop : tie.InvT-loop
-Inv-loop along₀ word undecided set c₀ along c = (c ≤ 64) × Cut along₀ word set c along
+Inv-loop along₀ row undecided set c₀ along c = (c ≤ columnLimit) × Cut along₀ row set c along
 
 abbrev μ-loop : tie.MeasureT-loop
-μ-loop along₀ word undecided set c₀ along c = 64 - c
+μ-loop along₀ row undecided set c₀ along c = columnLimit - c
 
 both-requires : tie.Need-both-requires Inv-loop μ-loop
 both-requires c κs = search needs

@@ -3,16 +3,18 @@ use borrow.Author.Needs.{needs}
 use mathlib.Core.Path.{sym, _∙_}
 use Prim.Native.Nat.{_≤_, _<_, _-_}
 use native.Mathlib.Omega.{arith}
-use lib.ListN.{length}
 use Rattle.matrix.specs.Sets.{Member}
 use Rattle.reduction.proofs.forced.row_for.Statement.{statement}
 use Rattle.reduction.proofs.forced.row_for.Tie as tie
 
 abbrev Inv-loop : tie.InvT-loop
-Inv-loop words live c i₀ i = (i ≤ length words) × (i < length words → Member live i)
+Inv-loop words live c end i₀ i = (i ≤ end) × (i < end → Member live i)
 
 abbrev μ-loop : tie.MeasureT-loop
-μ-loop words live c i₀ i = length words - i
+μ-loop words live c end i₀ i = end - i
+
+row-count-requires : tie.Need-row-count-requires Inv-loop μ-loop
+row-count-requires c κs = search needs
 
 next-requires : tie.Need-next-requires Inv-loop μ-loop
 next-requires c κs = search needs
@@ -20,17 +22,16 @@ next-requires c κs = search needs
 loop-holds : tie.Need-loop-holds Inv-loop μ-loop
 loop-holds c = (search needs, c .next .ensures .here)
 
-mul-has : tie.Need-mul-has Inv-loop μ-loop
-mul-has c = search needs
-
-shared-slice-read-has : tie.Need-shared-slice-read-has Inv-loop μ-loop
-shared-slice-read-has c = search needs
+covered-requires : tie.Need-covered-requires Inv-loop μ-loop
+covered-requires c κs = search needs
 
 has-requires : tie.Need-has-requires Inv-loop μ-loop
 has-requires c κs = search needs
 
 returns : tie.Need-returns Inv-loop μ-loop
-returns c = record { within = search needs; here = λ l. (c .before .before .before .before .loop .inv .1 l, sym (c .before .has .ensures) ∙ c .if1 .taken) }
+returns c =
+    let covers = rw (c .before .before .covered .ensures) at (sym (c .before .has .ensures) ∙ c .if1 .taken) in
+    record { within = search needs; here = λ l. (c .before .before .before .before .loop .inv .1 (c .before .before .before .loop-test .taken), covers) }
 
 add-next : tie.Need-add-next Inv-loop μ-loop
 add-next c = search needs
@@ -53,10 +54,10 @@ row-for-spec =
     (tie.spec
     Inv-loop
     μ-loop
+    row-count-requires
     next-requires
     loop-holds
-    mul-has
-    shared-slice-read-has
+    covered-requires
     has-requires
     returns
     add-next

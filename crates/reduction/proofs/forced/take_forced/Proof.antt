@@ -2,18 +2,18 @@
 -- are no more than at the start. Assumes nothing.
 use borrow.Author.Needs.{needs}
 use Prim.Native.Nat.{_≤_, _<_, _-_}
-use Rattle.covering.proofs.Flags.{not-set, kept-of}
-use Rattle.matrix.specs.Sets.{has, In}
-use Rattle.reduction.specs.Reduction.{Onward}
+use Rattle.numbers.proofs.Flags.{not-set, kept-of}
+use Rattle.matrix.specs.Sets.{columnLimit, has, In}
+use Rattle.reduction.specs.Steps.{Onward}
 use Rattle.reduction.proofs.Steps.{onward-none, onward-then}
 use Rattle.reduction.proofs.forced.take_forced.Statement.{statement}
 use Rattle.reduction.proofs.forced.take_forced.Tie as tie
 
 abbrev Inv-loop : tie.InvT-loop
-Inv-loop words weights single rest₀ c₀ rest c = (c ≤ 64) × (c < 64 → In single c) × Onward words weights rest₀ rest
+Inv-loop words weights undecided single rest₀ c₀ rest c = (c ≤ columnLimit) × (c < columnLimit → In single c) × Onward words weights rest₀ rest
 
 abbrev μ-loop : tie.MeasureT-loop
-μ-loop words weights single rest₀ c₀ rest c = 64 - c
+μ-loop words weights undecided single rest₀ c₀ rest c = columnLimit - c
 
 covered-twice-requires : tie.Need-covered-twice-requires Inv-loop μ-loop
 covered-twice-requires c κs = search needs
@@ -25,15 +25,19 @@ next-requires : tie.Need-next-requires Inv-loop μ-loop
 next-requires c κs = search needs
 
 loop-holds : tie.Need-loop-holds Inv-loop μ-loop
-loop-holds c = (search needs, c .next .ensures .here, onward-none _ _ _ (c .before .before .before .before .before .before .before .pre .1))
+loop-holds c =
+    let twice = c .before .before in
+    (search needs, c .next .ensures .here, onward-none _ _ _ (twice .before .before .before .before .before .pre .1))
 
 take-requires : tie.Need-take-requires Inv-loop μ-loop
 take-requires c κs =
     let l = c .before .loop in
-    let twice = c .before .before .before .before .covered-twice in
+    let twice = c .before .before .before .before in
+    let start = twice .before .before .before .before .before in
     let o = l .inv .2 in
-    let once = not-set (has (twice .result) (l .c)) (kept-of (has (c .before .before .before .before .before .before .before .before .before .args .state .undecided) (l .c)) _ (c .before .before .before .without .ensures (l .c)) (l .inv .1 (c .loop-test .taken)) .1) in
-    (c .before .before .before .before .before .before .before .before .before .pre .0, c .loop-test .taken, λ i j m n. twice .ensures (l .c) once i j (o .fewer i m) (o .fewer j n), o .room)
+    let kept = kept-of (has (start .args .state .undecided) (l .c)) _ (c .before .before .before .without .ensures (l .c)) (l .inv .1 (c .loop-test .taken)) in
+    let once = twice .covered-twice .ensures (l .c) (not-set (has (twice .covered-twice .result) (l .c)) (kept .1)) in
+    record { sizes = start .pre .0; column = c .loop-test .taken; one = λ i j m n. once i j (o .fewer i m) (o .fewer j n); room = o .room }
 
 add-next : tie.Need-add-next Inv-loop μ-loop
 add-next c = search needs

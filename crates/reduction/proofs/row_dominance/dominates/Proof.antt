@@ -3,24 +3,18 @@ use borrow.Author.Needs.{needs}
 use mathlib.Core.Path.{refl, sym, _∙_}
 use native.Mathlib.Omega.{arith}
 use borrow.Author.Tests.{not-false}
-use Rattle.covering.proofs.Flags.{clash, of-both}
+use Rattle.numbers.proofs.Flags.{clash, of-both}
 use Rattle.reduction.proofs.row_dominance.dominates.Statement.{statement}
 use Rattle.reduction.proofs.row_dominance.dominates.Tie as tie
 
-mul-both : tie.Need-mul-both
-mul-both c = search needs
-
-shared-slice-read-both : tie.Need-shared-slice-read-both
-shared-slice-read-both c = search needs
+covered-requires : tie.Need-covered-requires
+covered-requires c κs = search needs
 
 both-requires : tie.Need-both-requires
 both-requires c κs = search needs
 
-mul-inside : tie.Need-mul-inside
-mul-inside c = search needs
-
-shared-slice-read-inside : tie.Need-shared-slice-read-inside
-shared-slice-read-inside c = search needs
+covered-requires-2 : tie.Need-covered-requires-2
+covered-requires-2 c κs = search needs
 
 inside-requires : tie.Need-inside-requires
 inside-requires c κs = search needs
@@ -50,22 +44,25 @@ has-requires : tie.Need-has-requires
 has-requires c κs = search needs
 
 returns-4 : tie.Need-returns-4
-returns-4 c = λ e. record {
-  other = c .before .before .before .before .if2 .left;
-  lives = sym (c .has .ensures) ∙ e;
-  light = omega (arith, c .before .if3 .left);
-  inside = λ x h k. c .before .before .before .before .before .before .inside .ensures .all (not-false _ (c .before .before .before .before .before .if1 .left)) x (of-both (c .before .before .before .before .before .before .before .before .both .ensures x) k h);
-}
+returns-4 c =
+    let test = c .before .before .before .before .before in
+    let sets = test .before .before in
+    let within = rw (sets .covered2 .ensures) at (test .before .inside .ensures .all (not-false _ (test .if1 .left))) in
+    let both = rw (sets .before .before .covered .ensures) at (sets .before .both .ensures) in
+    λ e. record {
+      other = c .before .before .before .before .if2 .left;
+      lives = sym (c .has .ensures) ∙ e;
+      light = omega (arith, c .before .if3 .left);
+      inside = λ x h k. within x (of-both (both x) k h);
+    }
 
 pub dominates-spec : {M : Type 1} → statement M
 dominates-spec =
     tie.close
     (tie.spec
-    mul-both
-    shared-slice-read-both
+    covered-requires
     both-requires
-    mul-inside
-    shared-slice-read-inside
+    covered-requires-2
     inside-requires
     returns
     returns-2

@@ -2,15 +2,17 @@
 use borrow.Author.Needs.{needs}
 use Prim.Native.Nat.{_≤_, _-_}
 use native.Mathlib.Omega.{arith}
-use lib.ListN.{length}
 use Rattle.reduction.proofs.row_dominance.dominator.Statement.{statement}
 use Rattle.reduction.proofs.row_dominance.dominator.Tie as tie
 
 abbrev Inv-loop : tie.InvT-loop
-Inv-loop words weights live undecided found i j₀ j = j ≤ length words
+Inv-loop words weights live undecided found i end j₀ j = j ≤ end
 
 abbrev μ-loop : tie.MeasureT-loop
-μ-loop words weights live undecided found i j₀ j = length words - j
+μ-loop words weights live undecided found i end j₀ j = end - j
+
+row-count-requires : tie.Need-row-count-requires Inv-loop μ-loop
+row-count-requires c κs = search needs
 
 next-requires : tie.Need-next-requires Inv-loop μ-loop
 next-requires c κs = search needs
@@ -45,6 +47,7 @@ dominator-spec =
     (tie.spec
     Inv-loop
     μ-loop
+    row-count-requires
     next-requires
     loop-holds
     dominates-requires

@@ -1,28 +1,31 @@
 -- `reduction::row_dominance::drop_rows` meets its contract. The invariant: what was dropped so far is a reduction. Assumes nothing.
 use borrow.Author.Needs.{needs}
 use Prim.Native.Nat.{_≤_, _-_}
-use lib.ListN.{length}
 use Rattle.reduction.specs.Reduction.{Keeps}
 use Rattle.reduction.proofs.Steps.{keeps-all, keeps-then}
 use Rattle.reduction.proofs.row_dominance.drop_rows.Statement.{statement}
 use Rattle.reduction.proofs.row_dominance.drop_rows.Tie as tie
 
 abbrev Inv-loop : tie.InvT-loop
-Inv-loop words weights undecided by-column kept₀ i₀ kept i = (i ≤ length words) × Keeps words weights kept₀ undecided kept undecided
+Inv-loop words weights undecided by-column kept₀ end i₀ kept i = (i ≤ end) × Keeps words weights kept₀ undecided kept undecided
 
 abbrev μ-loop : tie.MeasureT-loop
-μ-loop words weights undecided by-column kept₀ i₀ kept i = length words - i
+μ-loop words weights undecided by-column kept₀ end i₀ kept i = end - i
 
 fill-requires : tie.Need-fill-requires Inv-loop μ-loop
 fill-requires c κs = search needs
+
+row-count-requires : tie.Need-row-count-requires Inv-loop μ-loop
+row-count-requires c κs = search needs
 
 next-requires : tie.Need-next-requires Inv-loop μ-loop
 next-requires c κs = search needs
 
 loop-holds : tie.Need-loop-holds Inv-loop μ-loop
 loop-holds c =
-    let a = c .before .before .before .before .before .before .args in
-    (search needs, keeps-all (a .words .now) (a .weights .now) _ _)
+    let filled = c .before .before .before in
+    let start = filled .before .before .before .before in
+    (search needs, keeps-all (start .args .words .now) (start .args .weights .now) _ _)
 
 drop-row-requires : tie.Need-drop-row-requires Inv-loop μ-loop
 drop-row-requires c κs = search needs
@@ -38,8 +41,10 @@ loop-less c = search needs
 
 loop-again : tie.Need-loop-again Inv-loop μ-loop
 loop-again c =
-    let a = c .before .before .before .before .before .before .before .before .before .before .before .before .args in
-    (search needs, keeps-then (a .words .now) (a .weights .now) _ _ _ _ _ _ (c .before .before .before .before .before .loop .inv .1) (c .before .before .drop-row .ensures))
+    let head = c .before .before .before .before .before in
+    let filled = head .before .before .before .before in
+    let start = filled .before .before .before .before in
+    (search needs, keeps-then (start .args .words .now) (start .args .weights .now) _ _ _ _ _ _ (head .loop .inv .1) (c .before .before .drop-row .ensures))
 
 returns : tie.Need-returns Inv-loop μ-loop
 returns c = c .before .loop .inv .1
@@ -51,6 +56,7 @@ drop-rows-spec =
     Inv-loop
     μ-loop
     fill-requires
+    row-count-requires
     next-requires
     loop-holds
     drop-row-requires

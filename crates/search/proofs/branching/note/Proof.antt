@@ -1,14 +1,15 @@
 -- `search::branching::note` is safe and ends: the column moves on. Assumes nothing.
 use borrow.Author.Needs.{needs}
 use Prim.Native.Nat.{_≤_, _-_}
+use Rattle.matrix.specs.Sets.{columnLimit}
 use Rattle.search.proofs.branching.note.Statement.{statement}
 use Rattle.search.proofs.branching.note.Tie as tie
 
 abbrev Inv-loop : tie.InvT-loop
-Inv-loop counts₀ near₀ set c₀ counts near c = c ≤ 64
+Inv-loop counts₀ near₀ set c₀ counts near c = c ≤ columnLimit
 
 abbrev μ-loop : tie.MeasureT-loop
-μ-loop counts₀ near₀ set c₀ counts near c = 64 - c
+μ-loop counts₀ near₀ set c₀ counts near c = columnLimit - c
 
 next-requires : tie.Need-next-requires Inv-loop μ-loop
 next-requires c κs = search needs

@@ -1,15 +1,17 @@
 -- `search::branching::note_all` is safe and ends: the row moves on. Assumes nothing.
 use borrow.Author.Needs.{needs}
 use Prim.Native.Nat.{_≤_, _-_}
-use lib.ListN.{length}
 use Rattle.search.proofs.branching.note_all.Statement.{statement}
 use Rattle.search.proofs.branching.note_all.Tie as tie
 
 abbrev Inv-loop : tie.InvT-loop
-Inv-loop words live undecided counts₀ near₀ i₀ counts near i = i ≤ length words
+Inv-loop words live undecided counts₀ near₀ end i₀ counts near i = i ≤ end
 
 abbrev μ-loop : tie.MeasureT-loop
-μ-loop words live undecided counts₀ near₀ i₀ counts near i = length words - i
+μ-loop words live undecided counts₀ near₀ end i₀ counts near i = end - i
+
+row-count-requires : tie.Need-row-count-requires Inv-loop μ-loop
+row-count-requires c κs = search needs
 
 next-requires : tie.Need-next-requires Inv-loop μ-loop
 next-requires c κs = search needs
@@ -17,11 +19,8 @@ next-requires c κs = search needs
 loop-holds : tie.Need-loop-holds Inv-loop μ-loop
 loop-holds c = search needs
 
-mul-both : tie.Need-mul-both Inv-loop μ-loop
-mul-both c = search needs
-
-shared-slice-read-both : tie.Need-shared-slice-read-both Inv-loop μ-loop
-shared-slice-read-both c = search needs
+covered-requires : tie.Need-covered-requires Inv-loop μ-loop
+covered-requires c κs = search needs
 
 both-requires : tie.Need-both-requires Inv-loop μ-loop
 both-requires c κs = search needs
@@ -50,10 +49,10 @@ note-all-spec =
     (tie.spec
     Inv-loop
     μ-loop
+    row-count-requires
     next-requires
     loop-holds
-    mul-both
-    shared-slice-read-both
+    covered-requires
     both-requires
     note-requires
     add-next

@@ -1,4 +1,4 @@
--- `search::branching::times` is safe: at most 64 times 2 ^ 32. Assumes nothing.
+-- `search::branching::times` is safe: at most the columns of a set times the limit of a weight. Assumes nothing.
 use borrow.Author.Needs.{needs}
 use native.Mathlib.Nat.{mul-le-mul-right}
 use native.Mathlib.Omega.{arith}

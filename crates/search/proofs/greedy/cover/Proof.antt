@@ -2,59 +2,59 @@
 -- Assumes nothing.
 use borrow.Author.Needs.{needs}
 use mathlib.Core.Path.{refl}
-use Prim.Native.Nat.{_<_}
 use native.Mathlib.Omega.{arith}
-use lib.ListN.{length}
-use Rattle.covering.specs.Cover.{count}
-use Rattle.matrix.specs.Sets.{member}
-use Rattle.matrix.proofs.Without.{left-count}
+use Rattle.covering.specs.Weighted.{setSize}
+use Rattle.matrix.specs.Sets.{rowLimit, member}
+use Rattle.matrix.proofs.Without.{left-size}
 use Rattle.search.proofs.Greedily.{Partial, partial-none, partial-more, partial-all}
 use Rattle.search.proofs.greedy.cover.Statement.{statement}
 use Rattle.search.proofs.greedy.cover.Tie as tie
 
 abbrev Inv-loop : tie.InvT-loop
-Inv-loop words weights undecided state₀ state = Partial words weights (state₀ .live) undecided state
+Inv-loop words weights undecided state₀ end state = Partial words weights (state₀ .live) undecided state
 
 abbrev μ-loop : tie.MeasureT-loop
-μ-loop words weights undecided state₀ state = count 768 (member (state .live))
+μ-loop words weights undecided state₀ end state = setSize rowLimit (member (state .live))
 
 none-requires : tie.Need-none-requires Inv-loop μ-loop
 none-requires c κs = search needs
 
+row-count-requires : tie.Need-row-count-requires Inv-loop μ-loop
+row-count-requires c κs = search needs
+
 loop-holds : tie.Need-loop-holds Inv-loop μ-loop
-loop-holds c = partial-none _ _ _ (c .none .ensures) refl
+loop-holds c = partial-none _ _ _ (c .before .none .ensures) refl
 
 is-empty-requires : tie.Need-is-empty-requires Inv-loop μ-loop
 is-empty-requires c κs = search needs
 
 returns : tie.Need-returns Inv-loop μ-loop
 returns c =
-    let p = c .before .before .before .loop .inv in
-    partial-all _ _ _ _ _ _ (omega arith) (c .before .is-empty .ensures .none (c .if1 .taken)) p
+    let tested = c .before in
+    partial-all _ _ _ _ _ _ (omega arith) (tested .is-empty .ensures .none (c .if1 .taken)) (tested .before .before .loop .inv)
 
-pick-requires : tie.Need-pick-requires Inv-loop μ-loop
-pick-requires c κs = search needs
+cheapest-row-requires : tie.Need-cheapest-row-requires Inv-loop μ-loop
+cheapest-row-requires c κs = search needs
 
 returns-2 : tie.Need-returns-2 Inv-loop μ-loop
 returns-2 c = record { within = omega arith; cover = λ l. absurd (omega arith) }
 
 take-row-requires : tie.Need-take-row-requires Inv-loop μ-loop
 take-row-requires c κs =
-    let s = c .before .before .before .before .before .before .before .before .before .before .before in
-    let l : c .before .pick .result < length (s .args .words .now) = omega (arith, c .before .pick .ensures .0, c .if2 .left) in
-    (s .pre, l, c .before .pick .ensures .1 l, c .before .before .before .before .before .before .before .loop .inv .room)
+    let chosen = c .before in
+    let head = chosen .before .before .before .before .before .before in
+    (search needs, omega arith, chosen .cheapest-row .ensures .here (omega arith), head .loop .inv .bounded)
 
 loop-less : tie.Need-loop-less Inv-loop μ-loop
 loop-less c =
-    let s = c .before .before .before .before .before .before .before .before .before .before .before .before in
-    let l : c .before .before .pick .result < length (s .args .words .now) = omega (arith, c .before .before .pick .ensures .0, c .before .if2 .left) in
-    omega (arith, left-count _ _ _ (c .take-row .ensures .live) 768 (omega (arith, s .pre .few)) (c .before .before .pick .ensures .1 l))
+    let chosen = c .before .before in
+    omega (arith, left-size _ _ _ (c .take-row .ensures .live) rowLimit (omega arith) (chosen .cheapest-row .ensures .here (omega arith)))
 
 loop-again : tie.Need-loop-again Inv-loop μ-loop
 loop-again c =
-    let s = c .before .before .before .before .before .before .before .before .before .before .before .before in
-    let l : c .before .before .pick .result < length (s .args .words .now) = omega (arith, c .before .before .pick .ensures .0, c .before .if2 .left) in
-    partial-more _ _ _ _ _ _ _ (omega (arith, s .pre .few)) (c .before .before .pick .ensures .1 l) (c .take-row .ensures) (c .before .before .before .before .before .before .before .before .loop .inv)
+    let chosen = c .before .before in
+    let head = chosen .before .before .before .before .before .before in
+    partial-more _ _ _ _ _ _ _ (omega arith) (chosen .cheapest-row .ensures .here (omega arith)) (c .take-row .ensures) (head .loop .inv)
 
 pub cover-spec : {M : Type 1} → statement M
 cover-spec =
@@ -63,10 +63,11 @@ cover-spec =
     Inv-loop
     μ-loop
     none-requires
+    row-count-requires
     loop-holds
     is-empty-requires
     returns
-    pick-requires
+    cheapest-row-requires
     returns-2
     take-row-requires
     loop-less

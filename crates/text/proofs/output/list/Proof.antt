@@ -5,7 +5,7 @@ use native.Mathlib.Omega.{arith}
 use lib.ListN.{length, length-append}
 use borrow.Author.Needs.{needs}
 use Rattle.cube.specs.Words.{firstRows}
-use Rattle.cube.proofs.Fronts.{rows-first}
+use Rattle.cube.proofs.Lists.{rows-first}
 use Rattle.text.specs.Output.{listLines, totals}
 use Rattle.text.proofs.Lines.{puts-append, puts-front, room-second, lines-length, totals-length}
 use Rattle.text.proofs.output.list.Statement.{statement}

@@ -8,9 +8,9 @@ use lib.ListN.{length}
 use borrow.Author.Needs.{needs}
 use Rattle.numbers.specs.Below.{run}
 use Rattle.cube.specs.Calls.{widest}
-use Rattle.cube.proofs.Below.{run-more}
+use Rattle.numbers.proofs.Below.{run-more}
 use Rattle.text.specs.Output.{characterOfVariable}
-use Rattle.text.specs.Printing.{Puts}
+use Rattle.cube.specs.Steps.{Puts}
 use Rattle.text.proofs.Lines.{puts-start, puts-turn, puts-append, puts-long}
 use Rattle.text.proofs.output.row.Statement.{statement}
 use Rattle.text.proofs.output.row.Tie as tie

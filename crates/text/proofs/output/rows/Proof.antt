@@ -8,9 +8,9 @@ use lib.ListN.{length, getD}
 use borrow.Author.Needs.{needs}
 use Rattle.cube.specs.Words.{rowsOf, firstRows}
 use Rattle.cube.specs.Calls.{widest}
-use Rattle.cube.proofs.Fronts.{rows-more, rows-first}
+use Rattle.cube.proofs.Lists.{rows-more, rows-first}
 use Rattle.text.specs.Output.{rowLine, listLines}
-use Rattle.text.specs.Printing.{Puts}
+use Rattle.cube.specs.Steps.{Puts}
 use Rattle.text.proofs.Lines.{puts-none, puts-append, puts-long, lines-append, lines-length}
 use Rattle.text.proofs.output.rows.Statement.{statement}
 use Rattle.text.proofs.output.rows.Tie as tie

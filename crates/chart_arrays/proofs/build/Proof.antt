@@ -1,0 +1,94 @@
+-- `chart_arrays::build` meets its contract: the primes are listed, and the words and counts are those of the listed cubes. Assumes nothing.
+use mathlib.Core.Path.{_≡_, refl, ap, _∙_, subst⁻¹}
+use mathlib.Core.List.{List}
+use Prim.Native.Nat.{ℕ, _^_, _<_, _≤_}
+use native.Mathlib.Omega.{arith}
+use lib.ListN.{length, getD}
+use lib.Seq.{sets}
+use borrow.Author.Needs.{needs}
+use Rattle.cube.specs.Words.{cubeLiterals, prime, primesOf}
+use Rattle.cube.specs.Calls.{widest}
+use Rattle.numbers.proofs.Below.{those-at}
+use Rattle.cube.proofs.Calls.{cubes-most, primes-most}
+use Rattle.numbers.proofs.Lent.{sets-at}
+use Rattle.chart_arrays.specs.Columns.{columnsOf}
+use Rattle.chart_arrays.specs.Chart.{Cubes}
+use Rattle.chart_arrays.proofs.build.Statement.{statement}
+use Rattle.chart_arrays.proofs.build.Tie as tie
+
+-- the listed cubes, in 729 places
+module _ (n : ℕ) (t old cubes : List ℕ) (rows : ℕ) (w : n ≤ widest) (long : length old ≡ 729) (rows-is : rows ≡ length (primesOf n t)) (cubes-is : cubes ≡ sets old 0 (primesOf n t)) where
+  few : rows ≤ 729
+  few = omega (arith, primes-most n t, cubes-most n w)
+
+  at : (i : ℕ) → i < rows → getD cubes i 0 ≡ getD (primesOf n t) i 0
+  at i l = ap (λ (c : List ℕ). getD c i 0) cubes-is ∙ sets-at (primesOf n t) old i (omega (arith, few)) (omega arith)
+
+  are-cubes : Cubes n cubes rows
+  unfolding primesOf
+  are-cubes i l = subst⁻¹ (λ (q : ℕ). q < 3 ^ n) (at i l) (those-at (prime n t) (3 ^ n) i (omega arith) .0)
+
+slice-aggregate-list-primes : tie.Need-slice-aggregate-list-primes
+slice-aggregate-list-primes c = search needs
+
+list-primes-requires : tie.Need-list-primes-requires
+list-primes-requires c κs = let s = c .before .before in (s .pre .0, s .pre .1, cubes-most _ (s .pre .0))
+
+slice-aggregate-fill-words : tie.Need-slice-aggregate-fill-words
+slice-aggregate-fill-words c = search needs
+
+slice-aggregate-fill-words-2 : tie.Need-slice-aggregate-fill-words-2
+slice-aggregate-fill-words-2 c = search needs
+
+fill-words-requires : tie.Need-fill-words-requires
+fill-words-requires c κs =
+    let s = c .before .before .before .before .before .before in
+    let l = c .before .before .before .list-primes in
+    let n = s .args .n in
+    let t = s .args .table .now in
+    let most = few n t _ (l .last .1 .1 .0) (l .result) (s .pre .0) refl (l .ensures .0) (l .ensures .1) in (
+      s .pre .0,
+      s .pre .1,
+      subst⁻¹ (λ (i : ℕ). l .result ≤ i) (l .kept .1 .1 .0) most,
+      most,
+      are-cubes n t _ (l .last .1 .1 .0) (l .result) (s .pre .0) refl (l .ensures .0) (l .ensures .1),
+    )
+
+slice-aggregate-fill-literals : tie.Need-slice-aggregate-fill-literals
+slice-aggregate-fill-literals c = search needs
+
+slice-aggregate-fill-literals-2 : tie.Need-slice-aggregate-fill-literals-2
+slice-aggregate-fill-literals-2 c = search needs
+
+fill-literals-requires : tie.Need-fill-literals-requires
+fill-literals-requires c κs =
+    let s = c .before .before .before .before .before .before .before .before .before .before in
+    let l = c .before .before .before .before .before .before .before .list-primes in
+    let most = few (s .args .n) (s .args .table .now) _ (l .last .1 .1 .0) (l .result) (s .pre .0) refl (l .ensures .0) (l .ensures .1) in
+    (s .pre .0, subst⁻¹ (λ (i : ℕ). l .result ≤ i) (l .kept .1 .1 .0) most, most)
+
+returns : tie.Need-returns
+returns c =
+    let s = c .before .before .before .before .before .before .before .before .before .before .before .before in
+    let l = c .before .before .before .before .before .before .before .before .before .list-primes in
+    let n = s .args .n in
+    let t = s .args .table .now in
+    let held = at n t _ (l .last .1 .1 .0) (l .result) (s .pre .0) refl (l .ensures .0) (l .ensures .1) in
+    let most = few n t _ (l .last .1 .1 .0) (l .result) (s .pre .0) refl (l .ensures .0) (l .ensures .1) in
+    record {
+      rows = l .ensures .0;
+      places = (
+        subst⁻¹ (λ (i : ℕ). l .result ≤ i) (l .kept .1 .1 .0) most,
+        subst⁻¹ (λ (i : ℕ). l .result ≤ i) (c .before .before .before .before .before .fill-words .kept .1 .1 .1 .1 .0) most,
+        subst⁻¹ (λ (i : ℕ). l .result ≤ i) (c .before .fill-literals .kept .1 .1 .1 .0) most,
+      );
+      cubes = held;
+      words = λ i p. c .before .before .before .before .before .fill-words .ensures i p ∙ ap (columnsOf n t) (held i p);
+      literals = λ i p. c .before .fill-literals .ensures i p ∙ ap (cubeLiterals n) (held i p);
+    }
+
+pub build-spec : {M : Type 1} → statement M
+build-spec =
+    tie.close
+    (tie.spec slice-aggregate-list-primes list-primes-requires slice-aggregate-fill-words slice-aggregate-fill-words-2 fill-words-requires
+    slice-aggregate-fill-literals slice-aggregate-fill-literals-2 fill-literals-requires returns)

@@ -1,0 +1,25 @@
+-- The chart on parallel arrays, place i of each for the prime at place i: "one per prime in that order: cube number, a 64-bit word whose bit c tells
+-- that wanted code c is matched, tested bits." Assumes nothing.
+use mathlib.Core.Path.{_≡_}
+use Prim.Native.Nat.{ℕ, _^_, _<_, _≤_}
+use mathlib.Core.List.{List}
+use lib.ListN.{length, getD}
+use Rattle.cube.specs.Words.{cubeLiterals, primesOf}
+use Rattle.chart_arrays.specs.Columns.{columnsOf}
+use Rattle.chart_arrays.specs.declared.Arrays.{Arrays}
+
+-- the prime at place i
+abbrev pub primeAt : ℕ → List ℕ → ℕ → ℕ
+primeAt n t i = getD (primesOf n t) i 0
+
+-- the arrays hold the chart of a table: so many rows, and in place i of each what the prime at place i has
+pub record IsChart (n : ℕ) (t : List ℕ) (a : Arrays) : Type 0 where
+  pub rows : a .rows ≡ length (primesOf n t)
+  pub places : (a .rows ≤ length (a .cubes)) × (a .rows ≤ length (a .words)) × (a .rows ≤ length (a .literals))
+  pub cubes : (i : ℕ) → i < a .rows → getD (a .cubes) i 0 ≡ primeAt n t i
+  pub words : (i : ℕ) → i < a .rows → getD (a .words) i 0 ≡ columnsOf n t (primeAt n t i)
+  pub literals : (i : ℕ) → i < a .rows → getD (a .literals) i 0 ≡ cubeLiterals n (primeAt n t i)
+
+-- the first count places hold cubes of n digits
+abbrev pub Cubes : ℕ → List ℕ → ℕ → Type 0
+Cubes n cubes count = (i : ℕ) → i < count → getD cubes i 0 < 3 ^ n

@@ -1,0 +1,18 @@
+-- What a chart row's word tells, as a statement over any width. `proofs/Theorems.antt` proves it. Assumes nothing.
+use mathlib.Core.Path.{_≡_}
+use mathlib.Core.Bool.{_&&_}
+use mathlib.Core.List.{List}
+use Prim.Native.Nat.{ℕ, _^_, _<_}
+use lib.Dec.{T, ltb}
+use Rattle.cube.specs.Words.{onSet, cubeMatches}
+use Rattle.matrix.specs.Sets.{has}
+use Rattle.chart_arrays.specs.Columns.{column, columnsOf}
+
+-- the word of cube q, bit by bit
+pub record WordTells (n : ℕ) (t : List ℕ) (q : ℕ) : Type 0 where
+  -- "a 64-bit word": it has a bit for each code, and no other
+  pub below : columnsOf n t q < 2 ^ (2 ^ n)
+  -- "whose bit c tells that wanted code c is matched"
+  pub bit : (c : ℕ) → has (columnsOf n t q) c ≡ (ltb c (2 ^ n) && column n t q c)
+  -- "Free and barred codes are never columns."
+  pub only-wanted : (c : ℕ) → T (has (columnsOf n t q) c) → (c < 2 ^ n) × T (onSet t c) × T (cubeMatches n q c)

@@ -1,2 +1,0 @@
--- The rows copied from the chart on parallel arrays.
-pub mod RowLists

@@ -1,2 +1,0 @@
--- Local arrays that are lent as slices.
-pub mod LocalArrays

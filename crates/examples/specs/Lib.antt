@@ -1,2 +1,0 @@
--- What the function that lends chart rows promises.
-pub mod Charts

@@ -1,0 +1,118 @@
+-- Writing into a lent list from the front: runs of stores that join, a part of the list that is lent on for a copy, a pass that stores a value for
+-- each number that passes a test, and a pass that fills a list with a function's values. Assumes nothing.
+use mathlib.Core.Path.{_≡_, refl, sym, ap, ap₂, _∙_, subst, subst₂}
+use mathlib.Core.Bool.{Bool, true, false, cond}
+use mathlib.Core.List.{List, [], _∷_, _++_, append-nil, append-assoc, map, map-id}
+use Prim.Native.Nat.{ℕ, suc, _+_, _-_, _<_, _≤_}
+use native.Mathlib.Nat.{zero-add, add-zero, add-suc, suc-add}
+use native.Mathlib.Numerals.{add-one}
+use native.Mathlib.Omega.{arith}
+use lib.ListN.{length, length-append, length-map, set, take, drop, drop-of-length-le, getD, List·getD-append}
+use lib.Seq.{sets, length-sets, sets-eq, take-length, getD-set-same, getD-set-other}
+use borrow.Author.Count.{below-more}
+use borrow.Rule.Slice.PartMut.{midOf, putMid, mid-len, post-is}
+use borrow.Table.Elements.{map-app, length-take-le}
+use Rattle.numbers.specs.Below.{those}
+use Rattle.numbers.proofs.Below.{those-length}
+use Rattle.numbers.proofs.Fronts.{take-more}
+
+-- a run of stores and the run right behind it
+pub sets-append : (l : List ℕ) (i : ℕ) (xs ys : List ℕ) → sets (sets l i xs) (i + length xs) ys ≡ sets l i (xs ++ ys)
+sets-append l i [] ys = ap (λ (k : ℕ). sets l k ys) (add-zero i)
+sets-append l i (x ∷ xs) ys =
+    ap (λ (k : ℕ). sets (sets (set l i x) (suc i) xs) k ys) (add-suc i (length xs) ∙ sym (suc-add i (length xs))) ∙ sets-append (set l i x) (suc i) xs ys
+
+-- a run of stores from the front: the list stands there, and behind it what stood there before
+pub sets-front : (xs old : List ℕ) → length xs ≤ length old → sets old 0 xs ≡ xs ++ drop (length xs) old
+sets-front xs old h = sets-eq xs old 0 (omega arith) ∙ ap (λ (i : ℕ). xs ++ drop i old) (zero-add (length xs))
+
+pub sets-at : (xs old : List ℕ) (i : ℕ) → length xs ≤ length old → i < length xs → getD (sets old 0 xs) i 0 ≡ getD xs i 0
+sets-at xs old i h l = ap (λ (l : List ℕ). getD l i 0) (sets-front xs old h) ∙ List·getD-append xs (drop (length xs) old) 0 i l
+
+-- a middle part that was lent and comes back with a copy of a source of its length: a run of stores
+pub put-copied : (a e : ℕ) (xs src part : List ℕ) → a + length src ≡ e → e ≤ length xs → part ≡ take (length src) src ++ drop (length src) (midOf a (e - a) xs)
+    → putMid a (e - a) xs part ≡ sets xs a src
+put-copied a e xs src part s h d =
+    ap (λ (l : List ℕ). putMid a (e - a) xs l) copied ∙ ap (λ (l : List ℕ). take a xs ++ (src ++ l)) (post-is a e xs (omega arith))
+    ∙ sym (append-assoc (take a xs) src (drop e xs))
+    ∙ sym (sets-eq src xs a (omega arith) ∙ ap (λ (i : ℕ). take a xs ++ src ++ drop i xs) s)
+  where
+    full : length (midOf a (e - a) xs) ≤ length src
+    full = omega (arith, mid-len a e xs h)
+
+    copied : part ≡ src
+    copied = d ∙ ap₂ _++_ (take-length src) (drop-of-length-le (midOf a (e - a) xs) full) ∙ append-nil src
+
+-- one store more, right behind a run from the front
+pub store-more : (old xs : List ℕ) {new : List ℕ} {i : ℕ} (x : ℕ) → new ≡ sets old 0 xs → i ≡ length xs → set new i x ≡ sets old 0 (xs ++ x ∷ [])
+store-more old xs x e l = ap₂ (λ (m : List ℕ) (k : ℕ). set m k x) e (l ∙ sym (zero-add (length xs))) ∙ sets-append old 0 xs (x ∷ [])
+
+-- the values of the first elements of a list, with one element more
+pub map-more : (f : ℕ → ℕ) (qs old : List ℕ) {new : List ℕ} (i x : ℕ) → i < length qs → new ≡ sets old 0 (map f (take i qs)) → x ≡ f (getD qs i 0)
+    → set new i x ≡ sets old 0 (map f (take (i + 1) qs))
+map-more f qs old i x l e v =
+    store-more old (map f (take i qs)) x e (sym (length-map (take i qs) f ∙ length-take-le i qs (omega arith)))
+    ∙ ap (sets old 0)
+    (ap (λ (y : ℕ). map f (take i qs) ++ y ∷ []) v ∙ sym (map-app f (take i qs) (getD qs i 0 ∷ []))
+    ∙ ap (map f) (sym (take-more qs i l)))
+
+-- ---- a value for each number that passes, stored one by one
+
+-- after the numbers below m: the values of those that pass are stored from the front, and there are count of them
+pub record Collected (g : ℕ → ℕ) (f : ℕ → Bool) (old new : List ℕ) (m count : ℕ) : Type 0 where
+  pub counts : count ≡ length (those m f)
+  pub places : new ≡ sets old 0 (map g (those m f))
+
+those-more : (m : ℕ) (f : ℕ → Bool) (b : Bool) → f m ≡ b → those (m + 1) f ≡ those m f ++ cond b (m ∷ []) []
+unfolding those
+those-more m f b e = ap (λ (k : ℕ). those k f) (add-one m) ∙ ap (λ (x : Bool). those m f ++ cond x (m ∷ []) []) e
+
+module _ (g : ℕ → ℕ) (f : ℕ → Bool) (old : List ℕ) where
+  pub collect-none : Collected g f old old 0 0
+  unfolding those
+  collect-none = record { counts = refl; places = refl }
+
+  module _ (new : List ℕ) (m count : ℕ) (h : Collected g f old new m count) where
+    pub collect-le : count ≤ m
+    collect-le = omega (arith, those-length f m, h .counts)
+
+    pub collect-long : length new ≡ length old
+    collect-long = ap length (h .places) ∙ length-sets old 0 (map g (those m f))
+
+    stored : f m ≡ true → Collected g f old (set new count (g m)) (m + 1) (count + 1)
+    stored e = record {
+      counts = omega (arith, h .counts, ap length (those-more m f true e), length-append (those m f) (m ∷ []));
+      places =
+          store-more old (map g (those m f)) (g m) (h .places) (h .counts ∙ sym (length-map (those m f) g))
+          ∙ ap (sets old 0) (sym (ap (map g) (those-more m f true e) ∙ map-app g (those m f) (m ∷ [])));
+    }
+
+    passed-over : f m ≡ false → Collected g f old new (m + 1) count
+    passed-over e =
+        let same : those (m + 1) f ≡ those m f = those-more m f false e ∙ append-nil (those m f) in
+        record { counts = h .counts ∙ sym (ap length same); places = h .places ∙ ap (λ (l : List ℕ). sets old 0 (map g l)) (sym same) }
+
+    -- as the two arms of a pass leave the list and the count
+    pub collect-yes : {new′ : List ℕ} {count′ : ℕ} → f m ≡ true → new′ ≡ set new count (g m) → count′ ≡ count + 1 → Collected g f old new′ (m + 1) count′
+    collect-yes e a b = subst₂ (λ (l : List ℕ) (k : ℕ). Collected g f old l (m + 1) k) (sym a) (sym b) (stored e)
+
+    pub collect-no : {new′ : List ℕ} {count′ : ℕ} → f m ≡ false → new′ ≡ new → count′ ≡ count → Collected g f old new′ (m + 1) count′
+    collect-no e a b = subst₂ (λ (l : List ℕ) (k : ℕ). Collected g f old l (m + 1) k) (sym a) (sym b) (passed-over e)
+
+-- all of it, where m is the end of the pass
+pub collected : (g : ℕ → ℕ) (f : ℕ → Bool) (old new : List ℕ) (m count : ℕ) → Collected g f old new m count → {k : ℕ} → m ≡ k
+    → (count ≡ length (those k f)) × (new ≡ sets old 0 (map g (those k f)))
+collected g f old new m count h e = subst (λ (i : ℕ). (count ≡ length (those i f)) × (new ≡ sets old 0 (map g (those i f)))) e (h .counts, h .places)
+
+-- where each number is stored itself
+pub collected-numbers : (f : ℕ → Bool) (old new : List ℕ) (m count : ℕ) → Collected (λ i. i) f old new m count → {k : ℕ} → m ≡ k
+    → (count ≡ length (those k f)) × (new ≡ sets old 0 (those k f))
+collected-numbers f old new m count h {k} e =
+    let all = collected (λ i. i) f old new m count h e in (all .0, all .1 ∙ ap (sets old 0) (map-id (those k f)))
+
+-- ---- a function's values, stored one by one
+
+pub fill-more : (g : ℕ → ℕ) (fs : List ℕ) (q x : ℕ) → q < length fs → ((k : ℕ) → k < q → getD fs k 0 ≡ g k) → x ≡ g q
+    → (k : ℕ) → k < q + 1 → getD (set fs q x) k 0 ≡ g k
+fill-more g fs q x l m e =
+    below-more (λ k. getD (set fs q x) k 0 ≡ g k) q (λ k h. getD-set-other fs q k x 0 (λ d. omega arith) ∙ m k h) (getD-set-same fs q x 0 l ∙ e)
