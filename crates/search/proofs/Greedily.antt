@@ -12,7 +12,8 @@ use Rattle.covering.proofs.Reductions.{cover-same, cover-nothing, cover-with}
 use Rattle.matrix.specs.Sets.{ColumnSet, RowSet, rowLimit, has, In, member, Member}
 use Rattle.matrix.specs.Matrix.{covered, covers, weightOf}
 use Rattle.matrix.proofs.Without.{left-in, left-out, size-most}
-use Rattle.reduction.specs.Reduction.{CostBounded, RowTaken}
+use Rattle.reduction.specs.Reduction.{CostBounded}
+use Rattle.reduction.specs.Steps.{RowTaken}
 use Rattle.reduction.specs.declared.Remaining.{Remaining}
 use Rattle.search.specs.Steps.{weightLimit, Incumbent}
 

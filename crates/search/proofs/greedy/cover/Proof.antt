@@ -43,7 +43,7 @@ take-row-requires : tie.Need-take-row-requires Inv-loop μ-loop
 take-row-requires c κs =
     let chosen = c .before in
     let head = chosen .before .before .before .before .before .before in
-    (search needs, omega arith, chosen .cheapest-row .ensures .here (omega arith), head .loop .inv .bounded)
+    record { sizes = search needs; row = omega arith; lives = chosen .cheapest-row .ensures .here (omega arith); room = head .loop .inv .bounded }
 
 loop-less : tie.Need-loop-less Inv-loop μ-loop
 loop-less c =
