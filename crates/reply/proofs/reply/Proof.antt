@@ -20,7 +20,7 @@ slice-aggregate-table : tie.Need-slice-aggregate-table
 slice-aggregate-table c =
     let s = c .before .before .before .before .before .before .before in
     let closed = c .before .before .before .before .close .ensures in
-    sym (length-take-le _ _ (le-trans (subst (λ (x : Text). counted x ≤ cellsKept (s .args .reading)) (c .before .before .n .given .1) (closed .count)) (le-trans (s .pre .0 .most) (s .pre .0 .places))))
+    sym (length-take-le _ _ (le-trans (subst (λ (x : Text). tableCells x ≤ cellsKept (s .args .reading)) (c .before .before .n .given .1) (closed .count)) (le-trans (s .pre .0 .most) (s .pre .0 .places))))
 
 table-requires : tie.Need-table-requires
 table-requires c κs = search needs
