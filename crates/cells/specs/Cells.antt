@@ -1,32 +1,9 @@
 -- Cells: "the codes that a cube matches, ascending, into a byte buffer; the answer is their count. [..] Refuses 1, 8, then 4 below 2^n bytes."
--- Then what its steps leave: the first untested digit, and the halves of a cube. Assumes nothing.
-use mathlib.Core.Path.{_≡_}
-use Prim.Native.Nat.{ℕ, _^_, _-_, _<_, _≤_}
-use mathlib.Core.List.{[], _∷_, _++_}
-use Rattle.cube.specs.Words.{digit, cubeLiterals, codesOf}
+-- What it lists is `codesOf`. Assumes nothing.
+use Prim.Native.Nat.{ℕ, _^_}
+use mathlib.Core.List.{[], _∷_}
 use Rattle.cube.specs.Calls.{badWidth, badCube, short, when, firstOf}
-use Rattle.cells.specs.declared.Split.{Split}
-use Rattle.cells.specs.declared.Split.the-variants.{Code, Halves}
 
--- the number that Cells refuses with, or 0
+-- the number that Cells refuses with, or 0, for a buffer of this many bytes
 abbrev pub cellsRefuses : ℕ → ℕ → ℕ → ℕ
 cellsRefuses n q places = firstOf (when (badWidth n) 1 ∷ when (badCube n q) 8 ∷ when (short places (2 ^ n)) 4 ∷ [])
-
--- ---- the steps
-
--- r is one more than the place of the first untested digit of q, x1's first, or 0 where there is none
-pub record FirstUntested (n q r : ℕ) : Type 0 where
-  pub inside : r ≤ n
-  pub untested : 0 < r → digit (r - 1) q ≡ 2
-  pub before : (j : ℕ) → r ≤ j → j < n → digit j q ≡ 2 → ⊥
-
--- a half of q: a cube of the same width with a smaller number and fewer untested digits
-pub record Half (n q p : ℕ) : Type 0 where
-  pub cube : p < 3 ^ n
-  pub lower : p < q
-  pub fewer : n - cubeLiterals n p < n - cubeLiterals n q
-
--- "splitting at the first untested digit, 0 half before 1 half, until none is left"
-abbrev pub Splits : ℕ → ℕ → Split → Type 0
-Splits n q (Code c) = (c < 2 ^ n) × (codesOf n q ≡ c ∷ [])
-Splits n q (Halves low high) = Half n q low × Half n q high × (codesOf n q ≡ codesOf n low ++ codesOf n high)

@@ -1,2 +1,3 @@
--- What Cells refuses and writes, and what its steps leave.
+-- What Cells refuses, then what its steps leave.
 pub mod Cells
+pub mod Steps

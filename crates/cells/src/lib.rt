@@ -3,13 +3,13 @@
 //     let mut codes = [0u8; 16];
 //     cells::cells(4, 53, &mut codes)     // digits 1 2 2 2: the codes 8 to 15, count 8
 use cube::Counted;
-ghost use mathlib.Core.Path.{_≡_};
-ghost use Prim.Native.Nat.{_+_, _<_, _≤_, _^_};
+ghost use Prim.Native.Nat.{_<_, _≤_, _^_};
 ghost use lib.ListN.{length};
-ghost use lib.Seq.{sets};
+ghost use Rattle.numbers.specs.Lent.{Puts};
 ghost use Rattle.cube.specs.Words.{codesOf};
 ghost use Rattle.cube.specs.Calls.{widest, Listed};
-ghost use Rattle.cells.specs.Cells.{cellsRefuses, FirstUntested, Splits};
+ghost use Rattle.cells.specs.Cells.{cellsRefuses};
+ghost use Rattle.cells.specs.Steps.{FirstUntested, Splits, RoomForCodes};
 
 // One more than the place of the first untested digit, or 0 where every digit is tested.
 fn first_untested(n: usize, q: usize) -> usize
@@ -47,8 +47,8 @@ pub fn split_at_first(n: usize, q: usize) -> Split
 
 // Writes the codes of q from place `at` on and returns the place behind them.
 fn write_codes(n: usize, q: usize, out: &mut [u8], at: usize) -> usize
-    requires { ⌜ (n ≤ widest) × (q < 3 ^ n) × (at + length (codesOf n q) ≤ length (now out)) ⌝ }
-    ensures { λ r. ⌜ (r ≡ at + length (codesOf n q)) × (now (out .exit) ≡ sets (now (out .entry)) at (codesOf n q)) ⌝ }
+    requires { ⌜ RoomForCodes n q (now out) at ⌝ }
+    ensures { λ r. ⌜ Puts (codesOf n q) (now (out .entry)) at (now (out .exit)) r ⌝ }
 {
     match split_at_first(n, q) {
         Split::Code(code) => {

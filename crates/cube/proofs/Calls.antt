@@ -9,14 +9,14 @@ use native.Mathlib.Omega.{arith}
 use lib.Dec.{T, eqb, ltb, lit<}
 use lib.ListN.{length}
 use lib.Pow.{pow-mono}
-use lib.Seq.{sets}
 use borrow.Author.Tests.{ltb-false, eqb-true, not-false}
 use Rattle.cube.specs.Words.{rowsOf, prime, essential, primesOf, essentialsOf}
 use Rattle.cube.specs.Calls.{widest, badWidth, badLength, badCell, unequalLengths, mostRows, tooManyRows, badRow, Condition, when, firstOf, tableConditions, listConditions, Answer, refuses, gives, answered, written, Listed}
 use Rattle.cube.specs.declared.Counted.the-variants.{Count, Refused}
+use Rattle.numbers.specs.Lent.{Puts}
 use Rattle.numbers.proofs.Bools.{and-l, and-r, not-e, eqb-of}
 use Rattle.numbers.proofs.Below.{those-length}
-use Rattle.numbers.proofs.Lent.{sets-front}
+use Rattle.numbers.proofs.Lent.{front-count, front-places}
 
 -- ---- a good width
 
@@ -180,9 +180,9 @@ listed-refused {list = list} {old = old} k e = record {
 }
 
 -- it writes the list from the first place
-pub listed-done : {refusal : ℕ} {list old new : List ℕ} {count : ℕ} → refusal ≡ 0 → count ≡ length list → new ≡ sets old 0 list → length list ≤ length old
+pub listed-done : {refusal : ℕ} {list old new : List ℕ} {count : ℕ} → refusal ≡ 0 → Puts list old 0 new count → length list ≤ length old
     → Listed refusal list old new (Count count)
-listed-done {list = list} {old = old} e c w l = record {
-  answer = ap (answered 0) c ∙ ap (λ (i : ℕ). answered i (length list)) (sym e);
-  places = w ∙ sets-front list old l ∙ ap (λ (i : ℕ). written i list old) (sym e);
+listed-done {list = list} {old = old} e p l = record {
+  answer = ap (answered 0) (front-count p) ∙ ap (λ (i : ℕ). answered i (length list)) (sym e);
+  places = front-places p l ∙ ap (λ (i : ℕ). written i list old) (sym e);
 }

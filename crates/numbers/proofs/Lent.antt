@@ -13,6 +13,7 @@ use borrow.Author.Count.{below-more}
 use borrow.Rule.Slice.PartMut.{midOf, putMid, mid-len, post-is}
 use borrow.Table.Elements.{map-app, length-take-le}
 use Rattle.numbers.specs.Below.{those}
+use Rattle.numbers.specs.Lent.{Puts}
 use Rattle.numbers.proofs.Below.{those-length}
 use Rattle.numbers.proofs.Fronts.{take-more}
 
@@ -43,72 +44,90 @@ put-copied a e xs src part s h d =
     copied : part ≡ src
     copied = d ∙ ap₂ _++_ (take-length src) (drop-of-length-le (midOf a (e - a) xs) full) ∙ append-nil src
 
--- one store more, right behind a run from the front
-pub store-more : (old xs : List ℕ) {new : List ℕ} {i : ℕ} (x : ℕ) → new ≡ sets old 0 xs → i ≡ length xs → set new i x ≡ sets old 0 (xs ++ x ∷ [])
-store-more old xs x e l = ap₂ (λ (m : List ℕ) (k : ℕ). set m k x) e (l ∙ sym (zero-add (length xs))) ∙ sets-append old 0 xs (x ∷ [])
+-- ---- a list that is put into lent places
+
+pub puts-none : (old : List ℕ) (at : ℕ) → Puts [] old at old at
+puts-none old at = record { behind = sym (add-zero at); places = refl }
+
+-- one list right behind another
+pub puts-append : {xs ys old mid new : List ℕ} {at middle next : ℕ} → Puts xs old at mid middle → Puts ys mid middle new next → Puts (xs ++ ys) old at new next
+puts-append {xs} {ys} {old} {at = at} p q = record {
+  behind = omega (arith, p .behind, q .behind, length-append xs ys);
+  places = q .places ∙ ap₂ (λ (l : List ℕ) (i : ℕ). sets l i ys) (p .places) (p .behind) ∙ sets-append old at xs ys;
+}
+
+-- one store
+pub puts-one : (old : List ℕ) (at x : ℕ) → Puts (x ∷ []) old at (set old at x) (at + 1)
+puts-one old at x = record { behind = refl; places = refl }
+
+-- no place is added or lost
+pub puts-long : {xs old new : List ℕ} {at next : ℕ} → Puts xs old at new next → length new ≡ length old
+puts-long {xs} {old} {at = at} p = ap length (p .places) ∙ length-sets old at xs
+
+-- the same list by another name
+pub puts-same : {xs ys old new : List ℕ} {at next : ℕ} → xs ≡ ys → Puts xs old at new next → Puts ys old at new next
+puts-same {old = old} {new} {at} {next} e p = subst (λ (l : List ℕ). Puts l old at new next) e p
+
+-- from the front: how many there are, and what stands behind them
+pub front-count : {xs old new : List ℕ} {next : ℕ} → Puts xs old 0 new next → next ≡ length xs
+front-count {xs} p = p .behind ∙ zero-add (length xs)
+
+pub front-places : {xs old new : List ℕ} {next : ℕ} → Puts xs old 0 new next → length xs ≤ length old → new ≡ xs ++ drop (length xs) old
+front-places {xs} {old} p l = p .places ∙ sets-front xs old l
 
 -- the values of the first elements of a list, with one element more
-pub map-more : (f : ℕ → ℕ) (qs old : List ℕ) {new : List ℕ} (i x : ℕ) → i < length qs → new ≡ sets old 0 (map f (take i qs)) → x ≡ f (getD qs i 0)
-    → set new i x ≡ sets old 0 (map f (take (i + 1) qs))
-map-more f qs old i x l e v =
-    store-more old (map f (take i qs)) x e (sym (length-map (take i qs) f ∙ length-take-le i qs (omega arith)))
-    ∙ ap (sets old 0)
-    (ap (λ (y : ℕ). map f (take i qs) ++ y ∷ []) v ∙ sym (map-app f (take i qs) (getD qs i 0 ∷ []))
-    ∙ ap (map f) (sym (take-more qs i l)))
+pub map-more : (f : ℕ → ℕ) (qs old : List ℕ) {new : List ℕ} (i x : ℕ) → i < length qs → Puts (map f (take i qs)) old 0 new i → x ≡ f (getD qs i 0)
+    → Puts (map f (take (i + 1) qs)) old 0 (set new i x) (i + 1)
+map-more f qs old {new} i x l p v =
+    puts-same
+    (ap (λ (y : ℕ). map f (take i qs) ++ y ∷ []) v ∙ sym (map-app f (take i qs) (getD qs i 0 ∷ [])) ∙ ap (map f) (sym (take-more qs i l)))
+    (puts-append p (puts-one new i x))
 
 -- ---- a value for each number that passes, stored one by one
-
--- after the numbers below m: the values of those that pass are stored from the front, and there are count of them
-pub record Collected (g : ℕ → ℕ) (f : ℕ → Bool) (old new : List ℕ) (m count : ℕ) : Type 0 where
-  pub counts : count ≡ length (those m f)
-  pub places : new ≡ sets old 0 (map g (those m f))
 
 those-more : (m : ℕ) (f : ℕ → Bool) (b : Bool) → f m ≡ b → those (m + 1) f ≡ those m f ++ cond b (m ∷ []) []
 unfolding those
 those-more m f b e = ap (λ (k : ℕ). those k f) (add-one m) ∙ ap (λ (x : Bool). those m f ++ cond x (m ∷ []) []) e
 
+-- after the numbers below m: the values of those that pass are stored from the front, and there are count of them
+pub record Collected (g : ℕ → ℕ) (f : ℕ → Bool) (old new : List ℕ) (m count : ℕ) : Type 0 where
+  pub puts : Puts (map g (those m f)) old 0 new count
+
 module _ (g : ℕ → ℕ) (f : ℕ → Bool) (old : List ℕ) where
   pub collect-none : Collected g f old old 0 0
   unfolding those
-  collect-none = record { counts = refl; places = refl }
+  collect-none = record { puts = puts-none old 0 }
 
   module _ (new : List ℕ) (m count : ℕ) (h : Collected g f old new m count) where
+    pub collect-counts : count ≡ length (those m f)
+    collect-counts = front-count (h .puts) ∙ length-map (those m f) g
+
     pub collect-le : count ≤ m
-    collect-le = omega (arith, those-length f m, h .counts)
+    collect-le = omega (arith, those-length f m, collect-counts)
 
     pub collect-long : length new ≡ length old
-    collect-long = ap length (h .places) ∙ length-sets old 0 (map g (those m f))
-
-    stored : f m ≡ true → Collected g f old (set new count (g m)) (m + 1) (count + 1)
-    stored e = record {
-      counts = omega (arith, h .counts, ap length (those-more m f true e), length-append (those m f) (m ∷ []));
-      places =
-          store-more old (map g (those m f)) (g m) (h .places) (h .counts ∙ sym (length-map (those m f) g))
-          ∙ ap (sets old 0) (sym (ap (map g) (those-more m f true e) ∙ map-app g (those m f) (m ∷ [])));
-    }
-
-    passed-over : f m ≡ false → Collected g f old new (m + 1) count
-    passed-over e =
-        let same : those (m + 1) f ≡ those m f = those-more m f false e ∙ append-nil (those m f) in
-        record { counts = h .counts ∙ sym (ap length same); places = h .places ∙ ap (λ (l : List ℕ). sets old 0 (map g l)) (sym same) }
+    collect-long = puts-long (h .puts)
 
     -- as the two arms of a pass leave the list and the count
     pub collect-yes : {new′ : List ℕ} {count′ : ℕ} → f m ≡ true → new′ ≡ set new count (g m) → count′ ≡ count + 1 → Collected g f old new′ (m + 1) count′
-    collect-yes e a b = subst₂ (λ (l : List ℕ) (k : ℕ). Collected g f old l (m + 1) k) (sym a) (sym b) (stored e)
+    collect-yes e a b =
+        let all = ap (map g) (those-more m f true e) ∙ map-app g (those m f) (m ∷ []) in
+        subst₂ (λ (l : List ℕ) (k : ℕ). Collected g f old l (m + 1) k) (sym a) (sym b)
+        (record { puts = puts-same (sym all) (puts-append (h .puts) (puts-one new count (g m))) })
 
     pub collect-no : {new′ : List ℕ} {count′ : ℕ} → f m ≡ false → new′ ≡ new → count′ ≡ count → Collected g f old new′ (m + 1) count′
-    collect-no e a b = subst₂ (λ (l : List ℕ) (k : ℕ). Collected g f old l (m + 1) k) (sym a) (sym b) (passed-over e)
+    collect-no e a b =
+        let same = those-more m f false e ∙ append-nil (those m f) in
+        subst₂ (λ (l : List ℕ) (k : ℕ). Collected g f old l (m + 1) k) (sym a) (sym b) (record { puts = puts-same (ap (map g) (sym same)) (h .puts) })
 
--- all of it, where m is the end of the pass
-pub collected : (g : ℕ → ℕ) (f : ℕ → Bool) (old new : List ℕ) (m count : ℕ) → Collected g f old new m count → {k : ℕ} → m ≡ k
-    → (count ≡ length (those k f)) × (new ≡ sets old 0 (map g (those k f)))
-collected g f old new m count h e = subst (λ (i : ℕ). (count ≡ length (those i f)) × (new ≡ sets old 0 (map g (those i f)))) e (h .counts, h .places)
+    -- all of it, where m is the end of the pass
+    pub collected : {k : ℕ} → m ≡ k → Puts (map g (those k f)) old 0 new count
+    collected e = puts-same (ap (λ (i : ℕ). map g (those i f)) e) (h .puts)
 
 -- where each number is stored itself
 pub collected-numbers : (f : ℕ → Bool) (old new : List ℕ) (m count : ℕ) → Collected (λ i. i) f old new m count → {k : ℕ} → m ≡ k
-    → (count ≡ length (those k f)) × (new ≡ sets old 0 (those k f))
-collected-numbers f old new m count h {k} e =
-    let all = collected (λ i. i) f old new m count h e in (all .0, all .1 ∙ ap (sets old 0) (map-id (those k f)))
+    → Puts (those k f) old 0 new count
+collected-numbers f old new m count h {k} e = puts-same (map-id (those k f)) (collected (λ i. i) f old new m count h e)
 
 -- ---- a function's values, stored one by one
 

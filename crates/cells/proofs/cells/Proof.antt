@@ -3,10 +3,9 @@ use mathlib.Core.Path.{_≡_, sym, _∙_, subst}
 use mathlib.Core.Bool.{true, false}
 use mathlib.Core.List.{List, [], _∷_}
 use Prim.Native.Nat.{ℕ, _+_, _^_, _<_, _≤_}
-use native.Mathlib.Nat.{zero-add}
 use native.Mathlib.Omega.{arith}
 use lib.ListN.{length}
-use lib.Seq.{sets}
+use Rattle.numbers.specs.Lent.{Puts}
 use borrow.Author.Needs.{needs}
 use borrow.Author.Tests.{lt-ltb, le-ltb, le-leb, lt-leb}
 use Rattle.cube.specs.Words.{codesOf}
@@ -54,10 +53,9 @@ module _ (n q : ℕ) (d : List ℕ) where
         room : 0 + length (codesOf n q) ≤ length d
         room = omega (arith, codes-length n q, enough)
 
-        done : (x : ℕ) (e : List ℕ) → x ≡ 0 + length (codesOf n q) → e ≡ sets d 0 (codesOf n q) → Ends e (Count x)
-        done x e x-is e-is =
-            listed-done (left ∙ first-passes (short (length d) (2 ^ n)) 4 [] (le-ltb (length d) (2 ^ n) enough)) (x-is ∙ zero-add (length (codesOf n q))) e-is
-            (omega (arith, codes-length n q, enough))
+        done : {x : ℕ} {e : List ℕ} → Puts (codesOf n q) d 0 e x → Ends e (Count x)
+        done p =
+            listed-done (left ∙ first-passes (short (length d) (2 ^ n)) 4 [] (le-ltb (length d) (2 ^ n) enough)) p (omega (arith, codes-length n q, enough))
 
 bad-width-requires : tie.Need-bad-width-requires
 bad-width-requires c κs = search needs
@@ -89,11 +87,13 @@ returns-3 c =
 
 write-codes-requires : tie.Need-write-codes-requires
 write-codes-requires c κs =
-    let s = c .before .before .before .before .before .before .before .before in (
-      width-to _ (good-at (c .before .before .before .before .before)),
-      below (s .args .n) (s .args .q) (s .args .out .now) (good-at (c .before .before .before .before .before)) _ (c .before .before .before .before .cubes .ensures) (c .before .before .before .if2 .left) _ (c .before .before .codes .ensures),
-      room (s .args .n) (s .args .q) (s .args .out .now) (good-at (c .before .before .before .before .before)) _ (c .before .before .before .before .cubes .ensures) (c .before .before .before .if2 .left) _ (c .before .before .codes .ensures) (c .before .if3 .left),
-    )
+    let s = c .before .before .before .before .before .before .before .before in
+    let good = good-at (c .before .before .before .before .before) in
+    record {
+      width = width-to _ good;
+      cube = below (s .args .n) (s .args .q) (s .args .out .now) good _ (c .before .before .before .before .cubes .ensures) (c .before .before .before .if2 .left) _ (c .before .before .codes .ensures);
+      room = room (s .args .n) (s .args .q) (s .args .out .now) good _ (c .before .before .before .before .cubes .ensures) (c .before .before .before .if2 .left) _ (c .before .before .codes .ensures) (c .before .if3 .left);
+    }
 
 same-length : tie.Need-same-length
 same-length c = search needs
@@ -101,8 +101,8 @@ same-length c = search needs
 returns-4 : tie.Need-returns-4
 returns-4 c =
     let s = c .before .before .before .before .before .before .before .before .before .before .before in
-    done (s .args .n) (s .args .q) (s .args .out .now) (good-at (c .before .before .before .before .before .before .before .before)) _ (c .before .before .before .before .before .before .before .cubes .ensures) (c .before .before .before .before .before .before .if2 .left) _ (c .before .before .before .before .before .codes .ensures) (c .before .before .before .before .if3 .left) _ _
-    (c .before .before .write-codes .ensures .0) (c .before .before .write-codes .ensures .1)
+    done (s .args .n) (s .args .q) (s .args .out .now) (good-at (c .before .before .before .before .before .before .before .before)) _ (c .before .before .before .before .before .before .before .cubes .ensures) (c .before .before .before .before .before .before .if2 .left) _ (c .before .before .before .before .before .codes .ensures) (c .before .before .before .before .if3 .left)
+    (c .before .before .write-codes .ensures)
 
 pub cells-spec : {M : Type 1} → statement M
 cells-spec =

@@ -10,7 +10,7 @@ use borrow.Author.Needs.{needs}
 use Rattle.cube.specs.Words.{digit, valueOf}
 use Rattle.cube.proofs.Digits.{putDigit, put-lt, put-weight, value-lt}
 use Rattle.cube.proofs.Codes.{codes-split, codes-one, untested-falls, literals-le}
-use Rattle.cells.specs.Cells.{FirstUntested, Half, Splits}
+use Rattle.cells.specs.Steps.{FirstUntested, Half, Splits}
 use Rattle.cells.specs.declared.Split.the-variants.{Code, Halves}
 use Rattle.cells.proofs.split_at_first.Statement.{statement}
 use Rattle.cells.proofs.split_at_first.Tie as tie

@@ -11,7 +11,7 @@ use borrow.Author.Tests.{eq-eqb, ne-eqb}
 use Rattle.numbers.specs.Below.{flag}
 use Rattle.cube.specs.Words.{implicant, codesOf}
 use Rattle.cube.proofs.Codes.{implicant-one, implicant-two}
-use Rattle.cells.specs.Cells.{Splits}
+use Rattle.cells.specs.Steps.{Splits}
 use Rattle.cells.specs.declared.Split.the-variants.{Code, Halves}
 use Rattle.primes.specs.Primes.{Marks}
 use Rattle.primes.proofs.implicant_flag.Statement.{statement}
