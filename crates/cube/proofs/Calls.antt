@@ -7,15 +7,17 @@ use Prim.Native.Nat.{ℕ, zero, suc, _^_, _≤_}
 use native.Mathlib.Nat.{pow-le-pow-right}
 use native.Mathlib.Omega.{arith}
 use lib.Dec.{T, eqb, ltb, lit<}
-use lib.ListN.{length}
+use lib.ListN.{length, take, drop}
 use lib.Pow.{pow-mono}
 use borrow.Author.Tests.{ltb-false, eqb-true, not-false}
 use Rattle.cube.specs.Words.{rowsOf, prime, essential, primesOf, essentialsOf}
 use Rattle.cube.specs.Calls.{widest, badWidth, badLength, badCell, unequalLengths, mostRows, tooManyRows, badRow, Condition, when, firstOf, tableConditions, listConditions, Answer, refuses, gives, answered, written, Listed}
+use Rattle.cube.specs.declared.Counted.{Counted}
 use Rattle.cube.specs.declared.Counted.the-variants.{Count, Refused}
 use Rattle.numbers.specs.Lent.{Puts}
 use Rattle.numbers.proofs.Bools.{and-l, and-r, not-e, eqb-of}
 use Rattle.numbers.proofs.Below.{those-length}
+use Rattle.numbers.proofs.Fronts.{front-is, front-behind}
 use Rattle.numbers.proofs.Lent.{front-count, front-places}
 
 -- ---- a good width
@@ -171,6 +173,25 @@ answered-refuses j (suc k) b e = (sym (same-number j (suc k) e), λ z. omega ari
 -- where it answers a refusal's number, that is what it refuses with
 pub listed-number : {A : Type 0} {refusal : ℕ} {list old new : List A} (k : ℕ) → Listed refusal list old new (Refused k) → refusal ≡ k
 listed-number {refusal = refusal} {list = list} k p = answered-refuses k refusal (length list) (p .answer) .0
+
+-- where it answers a count, nothing refuses, and the list stands in the first places, as many as the count
+module _ {A : Type 0} {refusal : ℕ} {list old new : List A} {k : ℕ} (p : Listed refusal list old new (Count k)) where
+  none-refuses : refusal ≡ 0
+  none-refuses = answered-gives refusal k (length list) (p .answer) .0
+
+  stands : new ≡ list ++ drop (length list) old
+  stands = p .places ∙ ap (λ (i : ℕ). written i list old) none-refuses
+
+  pub listed-front : take k new ≡ list
+  listed-front = front-is list old (answered-gives refusal k (length list) (p .answer) .1) stands
+
+  pub listed-behind : drop k new ≡ drop k old
+  listed-behind = front-behind list old (answered-gives refusal k (length list) (p .answer) .1) stands
+
+-- where nothing refuses, it answers a count
+pub listed-counts : {A : Type 0} {refusal : ℕ} {list old new : List A} (r : Counted) → refusal ≡ 0 → Listed refusal list old new r → (k : ℕ) × (r ≡ Count k)
+listed-counts (Count k) e p = (k, refl)
+listed-counts {refusal = refusal} {list} (Refused k) e p = absurd (answered-refuses k refusal (length list) (p .answer) .1 e)
 
 -- it refuses, and leaves the places as they were
 pub listed-refused : {refusal : ℕ} {list old : List ℕ} (k : ℕ) → refusal ≡ suc k → Listed refusal list old old (Refused (suc k))

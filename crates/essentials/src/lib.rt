@@ -15,7 +15,8 @@ ghost use lib.ListN.{length, getD};
 ghost use lib.Seq.{sets};
 ghost use Rattle.cube.specs.Words.{prime, essential, essentialsOf};
 ghost use Rattle.cube.specs.Calls.{widest, Listed};
-ghost use Rattle.primes.specs.Primes.{primesRefuses, Flagged, Marks, isMarked};
+ghost use Rattle.primes.specs.Primes.{primesRefuses};
+ghost use Rattle.primes.specs.Steps.{Flagged, Marks, isMarked};
 ghost use Rattle.chart_arrays.specs.Columns.{columnsOf};
 ghost use Rattle.essentials.specs.Essentials.{PrimeWords, SoleColumns};
 

@@ -2,11 +2,10 @@
 -- that list. Assumes nothing.
 use mathlib.Core.Path.{_≡_, refl, sym, ap, ap₂, _∙_, subst⁻¹}
 use mathlib.Core.List.{List, [], _∷_, _++_, map}
-use Prim.Native.Nat.{ℕ, _≤_}
-use native.Mathlib.Omega.{arith}
+use Prim.Native.Nat.{ℕ}
 use lib.Dec.{T}
-use lib.ListN.{length, length-append, length-map, take, drop}
-use lib.Seq.{take-append-seam, drop-append-seam}
+use lib.ListN.{length, length-map, drop}
+use Rattle.numbers.proofs.Fronts.{front-long, front-is, front-behind}
 use Rattle.cube.specs.Words.{Row, Cover, rowsOf, firstRows, coverLiterals, numberOf}
 use Rattle.cube.specs.Calls.{written}
 use Rattle.cube.specs.Minimum.{Minimum}
@@ -22,28 +21,14 @@ unfolding rowsOf
 rows-back [] = refl
 rows-back (r ∷ rs) = ap (λ (l : Cover). r ∷ l) (rows-back rs)
 
--- an array with a number of each row written from the first place on
-module _ (list : Cover) (f : Row → ℕ) (count : ℕ) (count-is : count ≡ length list) (old new : List ℕ) (new-is : new ≡ map f list ++ drop (length (map f list)) old) where
-  front-is : count ≡ length (map f list)
-  front-is = count-is ∙ sym (length-map list f)
-
-  array-long : count ≤ length new
-  array-long = omega (arith, front-is, ap length new-is ∙ length-append (map f list) (drop (length (map f list)) old))
-
-  array-front : take count new ≡ map f list
-  array-front = ap₂ take front-is new-is ∙ take-append-seam (map f list) (drop (length (map f list)) old)
-
-  array-behind : drop count new ≡ drop count old
-  array-behind =
-      ap₂ drop front-is new-is ∙ drop-append-seam (map f list) (drop (length (map f list)) old) ∙ ap (λ (k : ℕ). drop k old) (sym front-is)
-
 module _ (n : ℕ) (t values cares values′ cares′ : List ℕ) where
   module _ (rows bits : ℕ) (p : Plans n t values cares values′ cares′ (Rows rows bits)) where
     accepts : planRefuses n t (length values) (length cares) ≡ 0
     accepts = not-refused n t values cares values′ cares′ rows bits p
 
-    rows-are : rows ≡ length (p .list)
-    rows-are = rows-is n t values cares values′ cares′ rows bits p
+    -- an array has a number for each row
+    counts : (f : Row → ℕ) → rows ≡ length (map f (p .list))
+    counts f = rows-is n t values cares values′ cares′ rows bits p ∙ sym (length-map (p .list) f)
 
     values-are : values′ ≡ valuesOf (p .list) ++ drop (length (valuesOf (p .list))) values
     values-are = p .values-are ∙ ap (λ (k : ℕ). written k (valuesOf (p .list)) values) accepts
@@ -54,20 +39,20 @@ module _ (n : ℕ) (t values cares values′ cares′ : List ℕ) where
     -- the first places hold the list that the promise names
     pub list-is : firstRows rows values′ cares′ ≡ p .list
     list-is =
-        ap₂ rowsOf (array-front (p .list) (λ r. r .value) rows rows-are values values′ values-are)
-        (array-front (p .list) (λ r. r .care) rows rows-are cares cares′ cares-are)
+        ap₂ rowsOf (front-is (valuesOf (p .list)) values (counts (λ r. r .value)) values-are)
+        (front-is (caresOf (p .list)) cares (counts (λ r. r .care)) cares-are)
         ∙ rows-back (p .list)
 
     held : Held n t values cares values′ cares′ rows bits
     held = record {
-      enough-values = array-long (p .list) (λ r. r .value) rows rows-are values values′ values-are;
-      enough-cares = array-long (p .list) (λ r. r .care) rows rows-are cares cares′ cares-are;
+      enough-values = front-long (valuesOf (p .list)) values (counts (λ r. r .value)) values-are;
+      enough-cares = front-long (caresOf (p .list)) cares (counts (λ r. r .care)) cares-are;
       minimum = subst⁻¹ (Minimum n t) list-is (p .minimum accepts);
       is-ascending = subst⁻¹ (λ (l : Cover). T (ascending (map (numberOf n) l))) list-is (p .is-ascending accepts);
-      row-count = ap length list-is ∙ sym rows-are;
+      row-count = ap length list-is ∙ sym (rows-is n t values cares values′ cares′ rows bits p);
       bit-count = ap (coverLiterals n) list-is ∙ sym (bits-is n t values cares values′ cares′ rows bits p);
-      values-behind = array-behind (p .list) (λ r. r .value) rows rows-are values values′ values-are;
-      cares-behind = array-behind (p .list) (λ r. r .care) rows rows-are cares cares′ cares-are;
+      values-behind = front-behind (valuesOf (p .list)) values (counts (λ r. r .value)) values-are;
+      cares-behind = front-behind (caresOf (p .list)) cares (counts (λ r. r .care)) cares-are;
     }
 
   pub arrays-hold : ArraysHold n t values cares values′ cares′

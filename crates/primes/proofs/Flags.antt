@@ -12,7 +12,7 @@ use Rattle.cube.specs.Words.{tested, digit, implicant, prime}
 use Rattle.numbers.proofs.Below.{some-same}
 use Rattle.cube.proofs.Digits.{putDigit, put-lt, put-weight, digit-lt}
 use Rattle.cube.proofs.Implicants.{expands, maximal, prime-is-maximal}
-use Rattle.primes.specs.Primes.{Marks, isMarked, freed, expandsBy, primeBy}
+use Rattle.primes.specs.Steps.{Marks, isMarked, freed, expandsBy, primeBy}
 
 freed-is : (k q : ℕ) → freed k q ≡ putDigit k 2 q
 freed-is k q =

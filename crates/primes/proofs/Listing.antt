@@ -1,19 +1,21 @@
 -- How a call on a table that lists cubes ends: it refuses with what the table is refused for, then with 4, and lists them otherwise. Primes,
 -- Essentials and Chart are such calls. Assumes nothing.
-use mathlib.Core.Path.{_≡_, refl, sym, ap, _∙_}
+use mathlib.Core.Path.{_≡_, refl, sym}
 use mathlib.Core.Bool.{Bool}
 use mathlib.Core.List.{List}
 use Prim.Native.Nat.{ℕ, zero, suc, _^_, _<_, _≤_}
 use native.Mathlib.Nat.{le-trans}
 use lib.ListN.{length}
-use lib.Seq.{sets}
 use borrow.Author.Tests.{ltb-false, lt-ltb, le-ltb}
 use Rattle.numbers.specs.Below.{those}
+use Rattle.numbers.specs.Lent.{Puts}
 use Rattle.cube.specs.Calls.{short, firstOf, tableConditions, Listed}
 use Rattle.cube.specs.declared.Counted.the-variants.{Count, Refused}
 use Rattle.numbers.proofs.Below.{those-same}
+use Rattle.numbers.proofs.Lent.{puts-same}
 use Rattle.cube.proofs.Calls.{Accepted, four-table, four-holds, four-passes, four-none, listed-refused, listed-done}
-use Rattle.primes.specs.Primes.{primesRefuses, Marks, isMarked}
+use Rattle.primes.specs.Primes.{primesRefuses}
+use Rattle.primes.specs.Steps.{Marks, isMarked}
 use Rattle.primes.proofs.Flags.{marked-is}
 
 module _ (n : ℕ) (t : List ℕ) (places : ℕ) where
@@ -41,15 +43,14 @@ module _ (n : ℕ) (t list old : List ℕ) where
   listing-refused zero e h = absurd (h refl)
   listing-refused (suc k) e h = listed-refused k (sym e)
 
-  pub listing-done : {new : List ℕ} {x : ℕ} → primesRefuses n t (length old) ≡ 0 → x ≡ length list → length list ≤ 3 ^ n → new ≡ sets old 0 list
+  pub listing-done : {new : List ℕ} {x : ℕ} → primesRefuses n t (length old) ≡ 0 → length list ≤ 3 ^ n → Puts list old 0 new x
       → Listed (primesRefuses n t (length old)) list old new (Count x)
-  listing-done none x-is few new-is = listed-done none x-is new-is (le-trans few (listable n t (length old) none .enough))
+  listing-done none few p = listed-done none p (le-trans few (listable n t (length old) none .enough))
 
 -- the marked cubes are those that pass, where the marks are those of a test
 module _ (n : ℕ) (f : ℕ → Bool) (marks old : List ℕ) (k : Marks f marks (3 ^ n)) where
   marked-list : those (3 ^ n) (isMarked marks) ≡ those (3 ^ n) f
   marked-list = those-same (3 ^ n) (isMarked marks) f (λ q l. marked-is f marks (3 ^ n) q k l)
 
-  pub marked-listed : {x : ℕ} {new : List ℕ} → (x ≡ length (those (3 ^ n) (isMarked marks))) × (new ≡ sets old 0 (those (3 ^ n) (isMarked marks)))
-      → (x ≡ length (those (3 ^ n) f)) × (new ≡ sets old 0 (those (3 ^ n) f))
-  marked-listed e = (e .0 ∙ ap length marked-list, e .1 ∙ ap (sets old 0) marked-list)
+  pub marked-listed : {x : ℕ} {new : List ℕ} → Puts (those (3 ^ n) (isMarked marks)) old 0 new x → Puts (those (3 ^ n) f) old 0 new x
+  marked-listed p = puts-same marked-list p

@@ -1,46 +1,9 @@
 -- Primes: "all primes, ascending by cube number, into 16-bit places; the answer is the count. Refuses 1, 2, 3, then 4 below 3^n places."
--- Then what its marks hold: one for each cube, whether it is an implicant, whether it is prime. Assumes nothing.
-use mathlib.Core.Path.{_≡_}
-use Prim.Native.Nat.{ℕ, _+_, _*_, _-_, _^_, _<_, _≤_}
-use mathlib.Core.Bool.{Bool, not, _&&_}
-use mathlib.Core.List.{List, [], _∷_}
-use lib.Dec.{eqb}
-use lib.ListN.{length, getD}
-use Rattle.numbers.specs.Below.{flag, some}
-use Rattle.cube.specs.Words.{tested, digit}
-use Rattle.cube.specs.Calls.{widest, badWidth, badLength, badCell, short, when, firstOf}
+-- What it lists is `primesOf`. Essentials and Chart refuse alike. Assumes nothing.
+use Prim.Native.Nat.{ℕ, _^_}
+use mathlib.Core.List.{List, [], _∷_, _++_}
+use Rattle.cube.specs.Calls.{short, when, firstOf, tableConditions}
 
--- the number that Primes refuses with, or 0
+-- the number that Primes refuses with, or 0, for this many places
 abbrev pub primesRefuses : ℕ → List ℕ → ℕ → ℕ
-primesRefuses n t places =
-    firstOf (when (badWidth n) 1 ∷ when (badLength n t) 2 ∷ when (badCell t) 3 ∷ when (short places (3 ^ n)) 4 ∷ [])
-
--- a table of n variables, with a mark for each cube
-pub record Flagged (n : ℕ) (t flags : List ℕ) : Type 0 where
-  pub width : n ≤ widest
-  pub cells : length t ≡ 2 ^ n
-  pub enough : 3 ^ n ≤ length flags
-
--- the marks of the numbers below m are 1 for one that passes and 0 for another
-abbrev pub Marks : (ℕ → Bool) → List ℕ → ℕ → Type 0
-Marks f marks m = (q : ℕ) → q < m → getD marks q 0 ≡ flag (f q)
-
--- the marks from m on are as they were
-abbrev pub KeptFrom : ℕ → List ℕ → List ℕ → Type 0
-KeptFrom m old new = (q : ℕ) → m ≤ q → getD new q 0 ≡ getD old q 0
-
--- q is marked
-abbrev pub isMarked : List ℕ → ℕ → Bool
-isMarked marks q = not (eqb (getD marks q 0) 0)
-
--- the number of cube q with digit k made 2
-abbrev pub freed : ℕ → ℕ → ℕ
-freed k q = q + (2 - digit k q) * 3 ^ k
-
--- by the flags, digit k of q is a literal that can be given up
-abbrev pub expandsBy : List ℕ → ℕ → ℕ → Bool
-expandsBy flags q k = tested (digit k q) && isMarked flags (freed k q)
-
--- by the flags, q is an implicant of which no literal can be given up
-unfoldable pub primeBy : ℕ → List ℕ → ℕ → Bool
-primeBy n flags q = isMarked flags q && not (some n (expandsBy flags q))
+primesRefuses n t places = firstOf (tableConditions n t ++ (when (short places (3 ^ n)) 4 ∷ []))

@@ -9,11 +9,12 @@ use spelling::MOST_CUBES;
 ghost use mathlib.Core.Path.{_≡_};
 ghost use Prim.Native.Nat.{_<_, _≤_, _^_};
 ghost use lib.ListN.{length};
-ghost use lib.Seq.{sets};
 ghost use Rattle.numbers.specs.Below.{flag, those};
+ghost use Rattle.numbers.specs.Lent.{Puts};
 ghost use Rattle.cube.specs.Words.{implicant, prime, primesOf};
 ghost use Rattle.cube.specs.Calls.{widest, Listed};
-ghost use Rattle.primes.specs.Primes.{primesRefuses, Flagged, Marks, KeptFrom, isMarked, expandsBy, primeBy};
+ghost use Rattle.primes.specs.Primes.{primesRefuses};
+ghost use Rattle.primes.specs.Steps.{Flagged, Marks, MarksBelow, isMarked, expandsBy, primeBy};
 
 // The flag of cube q: from its cell, or from the flags of its halves.
 fn implicant_flag(n: usize, table: &[u8], flags: &[u8], q: usize) -> u8
@@ -73,7 +74,7 @@ fn is_prime(n: usize, flags: &[u8], q: usize) -> bool
 // Marks the primes by the flags of the implicants.
 fn mark_maximal(n: usize, flags: &[u8], marks: &mut [u8])
     requires { ⌜ (n ≤ widest) × (3 ^ n ≤ length (now flags)) × (3 ^ n ≤ length (now marks)) ⌝ }
-    ensures { λ _. ⌜ Marks (primeBy n (now (flags .entry))) (now (marks .exit)) (3 ^ n) × KeptFrom (3 ^ n) (now (marks .entry)) (now (marks .exit)) ⌝ }
+    ensures { λ _. ⌜ MarksBelow (3 ^ n) (primeBy n (now (flags .entry))) (now (marks .entry)) (now (marks .exit)) ⌝ }
 {
     let cubes = spelling::cubes(n);
     let mut q = 0;
@@ -86,7 +87,7 @@ fn mark_maximal(n: usize, flags: &[u8], marks: &mut [u8])
 // Marks the primes of a table of n variables: 1 for a prime, 0 for another cube. Marks past those of the cubes are left.
 pub fn mark_primes(n: usize, table: &[u8], marks: &mut [u8])
     requires { ⌜ Flagged n (now table) (now marks) ⌝ }
-    ensures { λ _. ⌜ Marks (prime n (now (table .entry))) (now (marks .exit)) (3 ^ n) × KeptFrom (3 ^ n) (now (marks .entry)) (now (marks .exit)) ⌝ }
+    ensures { λ _. ⌜ MarksBelow (3 ^ n) (prime n (now (table .entry))) (now (marks .entry)) (now (marks .exit)) ⌝ }
 {
     let mut flags = [0u8; MOST_CUBES];
     mark_implicants(n, table, &mut flags);
@@ -96,8 +97,7 @@ pub fn mark_primes(n: usize, table: &[u8], marks: &mut [u8])
 // Lists the numbers below m that are marked, ascending, and returns how many there are.
 fn list_below(m: usize, marks: &[u8], out: &mut [u16]) -> usize
     requires { ⌜ (m ≤ 3 ^ widest) × (m ≤ length (now marks)) × (m ≤ length (now out)) ⌝ }
-    ensures { λ r. ⌜ (r ≡ length (those m (isMarked (now (marks .entry)))))
-        × (now (out .exit) ≡ sets (now (out .entry)) 0 (those m (isMarked (now (marks .entry))))) ⌝ }
+    ensures { λ r. ⌜ Puts (those m (isMarked (now (marks .entry)))) (now (out .entry)) 0 (now (out .exit)) r ⌝ }
 {
     let mut count = 0;
     let mut q = 0;
@@ -114,8 +114,7 @@ fn list_below(m: usize, marks: &[u8], out: &mut [u16]) -> usize
 // Lists the marked cubes of n digits, ascending, and returns how many there are.
 pub fn list_marked(n: usize, marks: &[u8], out: &mut [u16]) -> usize
     requires { ⌜ (n ≤ widest) × (3 ^ n ≤ length (now marks)) × (3 ^ n ≤ length (now out)) ⌝ }
-    ensures { λ r. ⌜ (r ≡ length (those (3 ^ n) (isMarked (now (marks .entry)))))
-        × (now (out .exit) ≡ sets (now (out .entry)) 0 (those (3 ^ n) (isMarked (now (marks .entry))))) ⌝ }
+    ensures { λ r. ⌜ Puts (those (3 ^ n) (isMarked (now (marks .entry)))) (now (out .entry)) 0 (now (out .exit)) r ⌝ }
 {
     list_below(spelling::cubes(n), marks, out)
 }
@@ -123,15 +122,14 @@ pub fn list_marked(n: usize, marks: &[u8], out: &mut [u16]) -> usize
 // Lists the primes of a table of n variables, ascending, and returns their number.
 pub fn list_primes(n: usize, table: &[u8], out: &mut [u16]) -> usize
     requires { ⌜ (n ≤ widest) × (length (now table) ≡ 2 ^ n) × (3 ^ n ≤ length (now out)) ⌝ }
-    ensures { λ r. ⌜ (r ≡ length (primesOf n (now (table .entry))))
-        × (now (out .exit) ≡ sets (now (out .entry)) 0 (primesOf n (now (table .entry)))) ⌝ }
+    ensures { λ r. ⌜ Puts (primesOf n (now (table .entry))) (now (out .entry)) 0 (now (out .exit)) r ⌝ }
 {
     let mut marks = [0u8; MOST_CUBES];
     mark_primes(n, table, &mut marks);
     list_marked(n, &marks, out)
 }
 
-// What a call refuses that lists cubes into places, 3^n of them at least: 1, 2, 3, 4, or 0 where none of these holds.
+// What a call that lists cubes into 3^n places or more refuses: 1, 2, 3, 4, or 0 where none of these holds.
 pub fn listing_refusal(n: usize, table: &[u8], places: usize) -> u8
     ensures { λ r. ⌜ r ≡ primesRefuses n (now (table .entry)) places ⌝ }
 {

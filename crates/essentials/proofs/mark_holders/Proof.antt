@@ -9,7 +9,7 @@ use lib.ListN.{length, length-set, getD}
 use borrow.Author.Needs.{needs}
 use Rattle.numbers.specs.Below.{flag}
 use Rattle.numbers.proofs.Lent.{fill-more}
-use Rattle.primes.specs.Primes.{Marks}
+use Rattle.primes.specs.Steps.{Marks}
 use Rattle.primes.proofs.Flags.{byte-is}
 use Rattle.essentials.proofs.mark_holders.Statement.{statement}
 use Rattle.essentials.proofs.mark_holders.Tie as tie

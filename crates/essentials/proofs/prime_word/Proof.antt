@@ -6,7 +6,7 @@ use Prim.Native.Nat.{ℕ}
 use native.Mathlib.Nat.{lt-of-lt-of-le}
 use lib.ListN.{getD}
 use borrow.Author.Tests.{eq-eqb, ne-eqb}
-use Rattle.primes.specs.Primes.{isMarked}
+use Rattle.primes.specs.Steps.{isMarked}
 use Rattle.essentials.proofs.prime_word.Statement.{statement}
 use Rattle.essentials.proofs.prime_word.Tie as tie
 

@@ -9,7 +9,7 @@ use Rattle.cube.specs.Words.{prime}
 use Rattle.cube.specs.Calls.{widest}
 use Rattle.cube.proofs.Calls.{cubes-most}
 use Rattle.numbers.proofs.Lent.{fill-more}
-use Rattle.primes.specs.Primes.{Flagged, Marks}
+use Rattle.primes.specs.Steps.{Flagged, Marks}
 use Rattle.primes.proofs.Flags.{marked-is}
 use Rattle.chart_arrays.specs.Columns.{columnsOf}
 use Rattle.essentials.specs.Essentials.{PrimeWords}

@@ -11,7 +11,7 @@ use borrow.Author.Needs.{needs}
 use borrow.Author.Tests.{eq-eqb, ne-eqb}
 use Rattle.cube.specs.Words.{digit}
 use Rattle.cube.proofs.Digits.{digit-lt}
-use Rattle.primes.specs.Primes.{freed, expandsBy}
+use Rattle.primes.specs.Steps.{freed, expandsBy}
 use Rattle.primes.proofs.Flags.{freed-lt}
 use Rattle.primes.proofs.expands.Statement.{statement}
 use Rattle.primes.proofs.expands.Tie as tie

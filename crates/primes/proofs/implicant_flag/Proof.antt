@@ -13,7 +13,7 @@ use Rattle.cube.specs.Words.{implicant, codesOf}
 use Rattle.cube.proofs.Codes.{implicant-one, implicant-two}
 use Rattle.cells.specs.Steps.{Splits}
 use Rattle.cells.specs.declared.Split.the-variants.{Code, Halves}
-use Rattle.primes.specs.Primes.{Marks}
+use Rattle.primes.specs.Steps.{Marks}
 use Rattle.primes.proofs.implicant_flag.Statement.{statement}
 use Rattle.primes.proofs.implicant_flag.Tie as tie
 

@@ -11,7 +11,7 @@ use borrow.Author.Needs.{needs}
 use borrow.Author.Tests.{eq-eqb, ne-eqb}
 use Rattle.numbers.specs.Below.{some}
 use Rattle.numbers.proofs.Below.{some-found, some-none}
-use Rattle.primes.specs.Primes.{expandsBy, primeBy}
+use Rattle.primes.specs.Steps.{expandsBy, primeBy}
 use Rattle.primes.proofs.is_prime.Statement.{statement}
 use Rattle.primes.proofs.is_prime.Tie as tie
 

@@ -9,7 +9,7 @@ use borrow.Author.Needs.{needs}
 use borrow.Author.Tests.{eq-eqb, ne-eqb}
 use Rattle.cube.specs.Calls.{widest}
 use Rattle.numbers.proofs.Lent.{Collected, collect-none, collect-yes, collect-no, collect-le, collect-long, collected-numbers}
-use Rattle.primes.specs.Primes.{isMarked}
+use Rattle.primes.specs.Steps.{isMarked}
 use Rattle.primes.proofs.list_below.Statement.{statement}
 use Rattle.primes.proofs.list_below.Tie as tie
 

@@ -1,13 +1,12 @@
 -- `primes::list_marked` meets its contract: there are 3^n cubes. Assumes nothing.
-use mathlib.Core.Path.{ap, _∙_}
+use mathlib.Core.Path.{ap}
 use Prim.Native.Nat.{ℕ}
 use native.Mathlib.Omega.{arith}
-use lib.ListN.{length}
-use lib.Seq.{sets}
 use borrow.Author.Needs.{needs}
 use Rattle.numbers.specs.Below.{those}
+use Rattle.numbers.proofs.Lent.{puts-same}
 use Rattle.cube.proofs.Calls.{cubes-most}
-use Rattle.primes.specs.Primes.{isMarked}
+use Rattle.primes.specs.Steps.{isMarked}
 use Rattle.primes.proofs.list_marked.Statement.{statement}
 use Rattle.primes.proofs.list_marked.Tie as tie
 
@@ -22,9 +21,8 @@ same-length c = search needs
 
 returns : tie.Need-returns
 returns c =
-    let s = c .before .before .before .before .before .before .before .args in
-    let same = ap (λ (m : ℕ). those m (isMarked (s .marks .now))) (c .before .before .before .before .cubes .ensures) in
-    (c .before .before .list-below .ensures .0 ∙ ap length same, c .before .before .list-below .ensures .1 ∙ ap (sets (s .out .now) 0) same)
+    let marks = c .before .before .before .before .before .before .before .args .marks .now in
+    puts-same (ap (λ (m : ℕ). those m (isMarked marks)) (c .before .before .before .before .cubes .ensures)) (c .before .before .list-below .ensures)
 
 pub list-marked-spec : {M : Type 1} → statement M
 list-marked-spec = tie.close (tie.spec cubes-requires list-below-requires same-length returns)

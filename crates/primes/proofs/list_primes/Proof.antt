@@ -30,7 +30,7 @@ unfolding primesOf
 returns c =
     let s = c .before .before .before .before .before .before .before .before .before .before .args in
     let marked = c .before .before .before .before .before .before .mark-primes in
-    marked-listed (s .n) (prime (s .n) (s .table .now)) (marked .last .1 .1 .0) (s .out .now) (marked .ensures .0) (c .before .before .list-marked .ensures)
+    marked-listed (s .n) (prime (s .n) (s .table .now)) (marked .last .1 .1 .0) (s .out .now) (marked .ensures .marks) (c .before .before .list-marked .ensures)
 
 pub list-primes-spec : {M : Type 1} → statement M
 list-primes-spec =

@@ -7,7 +7,7 @@ use borrow.Author.Needs.{needs}
 use Rattle.numbers.specs.Below.{flag}
 use Rattle.cube.specs.Words.{implicant}
 use Rattle.numbers.proofs.Lent.{fill-more}
-use Rattle.primes.specs.Primes.{Flagged, Marks}
+use Rattle.primes.specs.Steps.{Flagged, Marks}
 use Rattle.primes.proofs.mark_implicants.Statement.{statement}
 use Rattle.primes.proofs.mark_implicants.Tie as tie
 

@@ -8,7 +8,7 @@ use borrow.Author.Needs.{needs}
 use Rattle.numbers.specs.Below.{flag}
 use Rattle.cube.specs.Calls.{widest}
 use Rattle.numbers.proofs.Lent.{fill-more}
-use Rattle.primes.specs.Primes.{Marks, KeptFrom, primeBy}
+use Rattle.primes.specs.Steps.{Marks, KeptFrom, primeBy}
 use Rattle.primes.proofs.Flags.{byte-is}
 use Rattle.primes.proofs.mark_maximal.Statement.{statement}
 use Rattle.primes.proofs.mark_maximal.Tie as tie
@@ -60,7 +60,7 @@ same-length : tie.Need-same-length Inv-loop μ-loop
 same-length c = c .before .loop .inv .3
 
 returns : tie.Need-returns Inv-loop μ-loop
-returns c = (λ k l. c .before .loop .inv .6 k (omega arith), λ k l. c .before .loop .inv .7 k (omega arith))
+returns c = record { marks = λ k l. c .before .loop .inv .6 k (omega arith); kept = λ k l. c .before .loop .inv .7 k (omega arith) }
 
 pub mark-maximal-spec : {M : Type 1} → statement M
 mark-maximal-spec =

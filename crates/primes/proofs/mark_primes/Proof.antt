@@ -35,7 +35,10 @@ returns c =
     let s = c .before .before .before .before .before .before .before .before .before .before in
     let implicants = c .before .before .before .before .before .before .mark-implicants in
     let maximal = c .before .before .mark-maximal .ensures in
-    (λ q l. maximal .0 q l ∙ ap flag (prime-by-flags (s .args .n) (s .args .table .now) (implicants .last .1 .1 .0) (implicants .ensures) q l), maximal .1)
+    record {
+      marks = λ q l. maximal .marks q l ∙ ap flag (prime-by-flags (s .args .n) (s .args .table .now) (implicants .last .1 .1 .0) (implicants .ensures) q l);
+      kept = maximal .kept;
+    }
 
 pub mark-primes-spec : {M : Type 1} → statement M
 mark-primes-spec =

@@ -29,8 +29,8 @@ same-length c = search needs
 returns-2 : tie.Need-returns-2
 returns-2 c =
     let s = c .before .before .before .before .before .before .before .before .args in
-    listing-done (s .n) (s .table .now) (primesOf (s .n) (s .table .now)) (s .out .now) (none (c .before .before .before .before)) (c .before .before .list-primes .ensures .0)
-    (primes-most (s .n) (s .table .now)) (c .before .before .list-primes .ensures .1)
+    listing-done (s .n) (s .table .now) (primesOf (s .n) (s .table .now)) (s .out .now) (none (c .before .before .before .before))
+    (primes-most (s .n) (s .table .now)) (c .before .before .list-primes .ensures)
 
 pub primes-spec : {M : Type 1} → statement M
 primes-spec = tie.close (tie.spec listing-refusal-requires returns list-primes-requires same-length returns-2)
