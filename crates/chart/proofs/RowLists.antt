@@ -11,7 +11,7 @@ use borrow.Table.Elements.{map-app}
 use Rattle.cube.specs.Words.{primesOf}
 use Rattle.cube.specs.Calls.{answered, countAnswer, written}
 use Rattle.cube.specs.declared.Counted.{Counted}
-use Rattle.chart_arrays.specs.Chart.{primeAt, IsChart}
+use Rattle.chart_arrays.specs.Steps.{primeAt, IsChart}
 use Rattle.chart_arrays.specs.declared.Arrays.{Arrays}
 use Rattle.chart.specs.declared.ChartRow.{ChartRow}
 use Rattle.chart.specs.declared.Prepared.{Prepared}

@@ -3,17 +3,16 @@ use mathlib.Core.Path.{_≡_, refl, sym, ap, ap₂, _∙_}
 use mathlib.Core.Logic.{⊎-elim}
 use mathlib.Core.Bool.{Bool, true, false, _&&_}
 use Prim.Native.Nat.{ℕ, zero, suc, _+_, _*_, _-_, _^_, _/_, _%_, _<_, _≤_}
-use native.Mathlib.Nat.{not-suc-le-zero, le-of-suc-le-suc, eq-or-lt-of-le, lt-suc-self, pow-suc, mul-assoc, div-eq-of-lt, add-mul-div-right, mod-eq-of-lt, zero-add}
+use native.Mathlib.Nat.{not-suc-le-zero, le-of-suc-le-suc, eq-or-lt-of-le, lt-suc-self, pow-suc, mul-assoc, div-eq-of-lt, add-mul-div-right, mod-eq-of-lt, zero-add, lt-of-lt-of-le}
 use native.Mathlib.Numerals.{add-one}
 use native.Mathlib.Omega.{arith}
 use lib.Dec.{eqb, ltb, lit<}
-use lib.Pow.{pow-pos, pow-add}
+use lib.Pow.{pow-pos, pow-add, pow-mono}
 use borrow.Author.Tests.{lt-ltb, le-ltb}
 use Rattle.numbers.specs.Below.{flag}
-use Rattle.numbers.proofs.Bools.{is-true, is-false, lt-or-le}
+use Rattle.numbers.proofs.Bools.{lt-or-le}
 use Rattle.numbers.proofs.Below.{flag-lt}
 use Rattle.matrix.specs.Sets.{has}
-use Rattle.matrix.proofs.Bits.{in-below}
 use Rattle.chart_arrays.specs.Columns.{wordOf}
 
 flag-times : (b : Bool) (x : ℕ) → flag b * x ≤ x
@@ -61,18 +60,24 @@ bit-of (suc m) f c l = ⊎-elim here (λ k. there k (bit-of m f c k)) (eq-or-lt-
         let d : (wordOf m f + b * 2 ^ m) / 2 ^ c ≡ wordOf m f / 2 ^ c + b * 2 ^ i * 2 = ap (λ (x : ℕ). (wordOf m f + x) / 2 ^ c) q ∙ add-mul-div-right (wordOf m f) (b * 2 ^ i * 2) (pow-pos c) in
         ap (λ (x : ℕ). x % 2) d ∙ even (wordOf m f / 2 ^ c) (b * 2 ^ i) ∙ ih
 
-one-tells : (b : Bool) → eqb (flag b) 1 ≡ b
-one-tells true = refl
-one-tells false = refl
+pub bit-word : (m : ℕ) (f : ℕ → Bool) (c : ℕ) → wordOf m f / 2 ^ c % 2 ≡ flag (ltb c m && f c)
+bit-word m f c = ⊎-elim inside outside (lt-or-le c m)
+  where
+    inside : c < m → wordOf m f / 2 ^ c % 2 ≡ flag (ltb c m && f c)
+    inside l = bit-of m f c l ∙ sym (ap (λ (b : Bool). flag (b && f c)) (lt-ltb c m l))
+
+    outside : m ≤ c → wordOf m f / 2 ^ c % 2 ≡ flag (ltb c m && f c)
+    outside l =
+        ap (λ (i : ℕ). i % 2) (div-eq-of-lt (lt-of-lt-of-le (word-lt m f) (pow-mono l))) ∙ sym (ap (λ (b : Bool). flag (b && f c)) (le-ltb c m l))
+
+-- a bit that tells something tells whether the set has the column
+pub bit-has : (x c : ℕ) (b : Bool) → x / 2 ^ c % 2 ≡ flag b → has x c ≡ b
+unfolding has
+bit-has x c b e = ap (λ (i : ℕ). eqb i 1) e ∙ go b
+  where
+    go : (b : Bool) → eqb (flag b) 1 ≡ b
+    go true = refl
+    go false = refl
 
 pub has-word : (m : ℕ) (f : ℕ → Bool) (c : ℕ) → has (wordOf m f) c ≡ (ltb c m && f c)
-unfolding has
-has-word m f c = ⊎-elim inside outside (lt-or-le c m)
-  where
-    inside : c < m → eqb (wordOf m f / 2 ^ c % 2) 1 ≡ (ltb c m && f c)
-    inside l = ap (λ (i : ℕ). eqb i 1) (bit-of m f c l) ∙ one-tells (f c) ∙ sym (ap (λ (b : Bool). b && f c) (lt-ltb c m l))
-
-    outside : m ≤ c → has (wordOf m f) c ≡ (ltb c m && f c)
-    outside l =
-        is-false (has (wordOf m f) c) (λ h. let z : c < m = in-below (wordOf m f) c m (word-lt m f) (is-true (has (wordOf m f) c) h) in omega arith)
-        ∙ sym (ap (λ (b : Bool). b && f c) (le-ltb c m l))
+has-word m f c = bit-has (wordOf m f) c (ltb c m && f c) (bit-word m f c)

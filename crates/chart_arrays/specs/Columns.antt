@@ -4,7 +4,7 @@ use Prim.Native.Nat.{ℕ, zero, suc, _+_, _*_, _^_}
 use mathlib.Core.Bool.{Bool, _&&_}
 use mathlib.Core.List.{List}
 use Rattle.numbers.specs.Below.{flag}
-use Rattle.cube.specs.Words.{onSet, rowMatches, cubeMatches}
+use Rattle.cube.specs.Words.{onSet, cubeMatches}
 
 -- the word whose bit c is set for each c below m that passes
 unfoldable pub wordOf : ℕ → (ℕ → Bool) → ℕ
@@ -18,7 +18,3 @@ column n t q c = onSet t c && cubeMatches n q c
 -- the word of cube q
 abbrev pub columnsOf : ℕ → List ℕ → ℕ → ℕ
 columnsOf n t q = wordOf (2 ^ n) (column n t q)
-
--- code c is wanted, and the row of value v and care w matches it
-abbrev pub rowColumn : List ℕ → ℕ → ℕ → ℕ → Bool
-rowColumn t v w c = onSet t c && rowMatches (record { value = v; care = w }) c

@@ -1,4 +1,4 @@
--- The columns of a chart row, the chart on parallel arrays, and what a row's word tells.
+-- The columns of a chart row and what its word tells, then the chart on parallel arrays.
 pub mod Columns
-pub mod Chart
 pub mod Theorems
+pub mod Steps

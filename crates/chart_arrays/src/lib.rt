@@ -1,6 +1,7 @@
 // The chart: a row for each prime, a column for each wanted code.
 //
 //     chart_arrays::cube_columns(2, &[1, 0, 2, 1], 2)     // cube 02 matches 0 and 1, of which 0 is wanted: the word 1
+use matrix::columns;
 use spelling::MOST_CUBES;
 ghost use mathlib.Core.Path.{_≡_};
 ghost use Prim.Native.Nat.{ℕ, _+_, _*_, _<_, _≤_, _^_};
@@ -8,12 +9,13 @@ ghost use lib.ListN.{length, getD};
 ghost use Rattle.numbers.specs.Below.{flag};
 ghost use Rattle.cube.specs.Calls.{widest};
 ghost use Rattle.cube.specs.Words.{tested, digit, cubeLiterals};
-ghost use Rattle.chart_arrays.specs.Columns.{wordOf, columnsOf, rowColumn};
-ghost use Rattle.chart_arrays.specs.Chart.{IsChart, Cubes};
+ghost use Rattle.matrix.specs.Sets.{columnLimit};
+ghost use Rattle.chart_arrays.specs.Columns.{wordOf, columnsOf};
+ghost use Rattle.chart_arrays.specs.Steps.{rowColumn, CodeNext, IsChart, Cubes};
 
 // The word with bit c, if code c is wanted and the row matches it.
-fn with_code(table: &[u8], value: usize, care: usize, c: usize, word: u64) -> u64
-    requires { ⌜ (c < length (now table)) × (c < 64) × (word < 2 ^ c) ⌝ }
+fn with_code(table: &[u8], value: usize, care: usize, c: usize, word: columns::Set) -> columns::Set
+    requires { ⌜ CodeNext (now table) c word ⌝ }
     ensures { λ r. ⌜ r ≡ word + flag (rowColumn (now (table .entry)) value care c) * 2 ^ c ⌝ }
 {
     if table[c] != 1 {
@@ -22,15 +24,15 @@ fn with_code(table: &[u8], value: usize, care: usize, c: usize, word: u64) -> u6
     if c & care != value {
         return word;
     }
-    word + (1u64 << c)
+    columns::with_next(word, c)
 }
 
 // The wanted codes that a row matches: all of them for value 0 and care 0.
-pub fn row_columns(table: &[u8], value: usize, care: usize) -> u64
-    requires { ⌜ length (now table) ≤ 64 ⌝ }
+pub fn row_columns(table: &[u8], value: usize, care: usize) -> columns::Set
+    requires { ⌜ length (now table) ≤ columnLimit ⌝ }
     ensures { λ r. ⌜ r ≡ wordOf (length (now (table .entry))) (rowColumn (now (table .entry)) value care) ⌝ }
 {
-    let mut word = 0u64;
+    let mut word = columns::NONE;
     let mut c = 0;
     while c < table.len() {
         word = with_code(table, value, care, c, word);
@@ -40,7 +42,7 @@ pub fn row_columns(table: &[u8], value: usize, care: usize) -> u64
 }
 
 // The wanted codes that cube q matches.
-pub fn cube_columns(n: usize, table: &[u8], q: usize) -> u64
+pub fn cube_columns(n: usize, table: &[u8], q: usize) -> columns::Set
     requires { ⌜ (n ≤ widest) × (length (now table) ≡ 2 ^ n) × (q < 3 ^ n) ⌝ }
     ensures { λ r. ⌜ r ≡ columnsOf n (now (table .entry)) q ⌝ }
 {

@@ -22,8 +22,9 @@ use Rattle.cube.proofs.McCluskey.{agreement}
 use Rattle.matrix.specs.Sets.{has, In}
 use Rattle.matrix.proofs.Bits.{has-and, has-zero, lowest-in}
 use Rattle.chart_arrays.specs.Columns.{column, columnsOf}
-use Rattle.chart_arrays.proofs.Columns.{word-lt, has-word}
-use Rattle.essentials.specs.Essentials.{PrimeWords, entries, Seen, SoleColumns}
+use Rattle.chart_arrays.proofs.Columns.{bit-has}
+use Rattle.chart_arrays.proofs.Theorems.{word-tells}
+use Rattle.essentials.specs.Steps.{PrimeWords, entries, Seen, SoleColumns}
 
 -- ---- once and twice
 
@@ -87,7 +88,7 @@ module _ (n : ℕ) (t words : List ℕ) (sole : ℕ) (p : PrimeWords n t words (
   has-prime q c l = ap (λ (x : ℕ). has x c) (p q l) ∙ go (prime n t q)
     where
       go : (b : Bool) → has (cond b (columnsOf n t q) 0) c ≡ (b && (ltb c (2 ^ n) && column n t q c))
-      go true = has-word (2 ^ n) (column n t q) c
+      go true = bit-has (columnsOf n t q) c (ltb c (2 ^ n) && column n t q c) (word-tells n t q .tells c)
       go false = has-zero c
 
   at-column : (c q : ℕ) → c < 2 ^ n → T (onSet t c) → q < 3 ^ n → has (getD words q 0) c ≡ (prime n t q && cubeMatches n q c)
@@ -110,7 +111,7 @@ module _ (n : ℕ) (t words : List ℕ) (sole : ℕ) (p : PrimeWords n t words (
     held-lt = lt-of-le-of-lt (and-le-l (getD words q 0) sole) (subst (λ (x : ℕ). x < 2 ^ (2 ^ n)) (sym (p q l)) (go (prime n t q)))
       where
         go : (b : Bool) → cond b (columnsOf n t q) 0 < 2 ^ (2 ^ n)
-        go true = word-lt (2 ^ n) (column n t q)
+        go true = word-tells n t q .below
         go false = pow-pos (2 ^ n)
 
     to : T (not (eqb held 0)) → T (essential n t q)

@@ -12,21 +12,21 @@ ghost use Prim.Native.Nat.{_<_, _≤_, _^_};
 ghost use lib.Bits.{bitAnd};
 ghost use lib.Dec.{eqb};
 ghost use lib.ListN.{length, getD};
-ghost use lib.Seq.{sets};
+ghost use Rattle.numbers.specs.Lent.{Puts};
 ghost use Rattle.cube.specs.Words.{prime, essential, essentialsOf};
 ghost use Rattle.cube.specs.Calls.{widest, Listed};
 ghost use Rattle.primes.specs.Primes.{primesRefuses};
 ghost use Rattle.primes.specs.Steps.{Flagged, Marks, isMarked};
 ghost use Rattle.chart_arrays.specs.Columns.{columnsOf};
-ghost use Rattle.essentials.specs.Essentials.{PrimeWords, SoleColumns};
+ghost use Rattle.essentials.specs.Steps.{PrimeWords, SoleColumns};
 
 // The word of cube q: its columns if it is marked as a prime, else none.
-fn prime_word(n: usize, table: &[u8], marks: &[u8], q: usize) -> u64
+fn prime_word(n: usize, table: &[u8], marks: &[u8], q: usize) -> columns::Set
     requires { ⌜ Flagged n (now table) (now marks) × (q < 3 ^ n) ⌝ }
     ensures { λ r. ⌜ r ≡ cond (isMarked (now (marks .entry)) q) (columnsOf n (now (table .entry)) q) 0 ⌝ }
 {
     if marks[q] == 0 {
-        return 0;
+        return columns::NONE;
     }
     chart_arrays::cube_columns(n, table, q)
 }
@@ -45,11 +45,14 @@ fn prime_words(n: usize, table: &[u8], marks: &[u8], words: &mut [u64])
 }
 
 // The columns that one of the first m words alone has.
-fn sole_columns(words: &[u64], m: usize) -> u64
+fn sole_columns(words: &[u64], m: usize) -> columns::Set
     requires { ⌜ m ≤ length (now words) ⌝ }
     ensures { λ r. ⌜ SoleColumns (now (words .entry)) m r ⌝ }
 {
-    let mut seen = columns::Coverage { once: 0, twice: 0 };
+    let mut seen = columns::Coverage {
+        once: columns::NONE,
+        twice: columns::NONE,
+    };
     let mut q = 0;
     while q < m {
         seen = columns::with_word(seen, words[q]);
@@ -59,7 +62,7 @@ fn sole_columns(words: &[u64], m: usize) -> u64
 }
 
 // Marks the words that have one of the columns.
-fn mark_holders(words: &[u64], m: usize, sole: u64, marks: &mut [u8])
+fn mark_holders(words: &[u64], m: usize, sole: columns::Set, marks: &mut [u8])
     requires { ⌜ (m ≤ length (now words)) × (m ≤ length (now marks)) ⌝ }
     ensures { λ _. ⌜ Marks (λ q. not (eqb (bitAnd (getD (now (words .entry)) q 0) sole) 0)) (now (marks .exit)) m ⌝ }
 {
@@ -86,8 +89,7 @@ fn mark_essentials(n: usize, table: &[u8], marks: &mut [u8])
 // Lists the essential primes of a table of n variables, ascending, and returns their number.
 fn list_essentials(n: usize, table: &[u8], out: &mut [u16]) -> usize
     requires { ⌜ (n ≤ widest) × (length (now table) ≡ 2 ^ n) × (3 ^ n ≤ length (now out)) ⌝ }
-    ensures { λ r. ⌜ (r ≡ length (essentialsOf n (now (table .entry))))
-        × (now (out .exit) ≡ sets (now (out .entry)) 0 (essentialsOf n (now (table .entry)))) ⌝ }
+    ensures { λ r. ⌜ Puts (essentialsOf n (now (table .entry))) (now (out .entry)) 0 (now (out .exit)) r ⌝ }
 {
     let mut marks = [0u8; MOST_CUBES];
     mark_essentials(n, table, &mut marks);

@@ -1,7 +1,7 @@
 // Sets of columns: words of 64 bits.
 ghost use mathlib.Core.Path.{_≡_};
 ghost use mathlib.Core.Bool.{not, _&&_, _||_};
-ghost use Prim.Native.Nat.{ℕ, _≤_, _<_};
+ghost use Prim.Native.Nat.{ℕ, _+_, _^_, _≤_, _<_};
 ghost use lib.Dec.{eqb};
 ghost use Rattle.matrix.specs.Sets.{columnLimit, has, Emptiness, Inclusion, Next};
 
@@ -38,6 +38,14 @@ pub fn only(c: usize) -> Set
     ensures { λ r. ⌜ ((x : ℕ) → has r x ≡ eqb x c) ⌝ }
 {
     1u64 << c
+}
+
+// The set with the column c more, which is above all of its columns.
+pub fn with_next(set: Set, c: usize) -> Set
+    requires { ⌜ (c < columnLimit) × (set < 2 ^ c) ⌝ }
+    ensures { λ r. ⌜ r ≡ set + 2 ^ c ⌝ }
+{
+    set + (1u64 << c)
 }
 
 // The columns of both sets.

@@ -22,8 +22,8 @@ use Rattle.cube.proofs.Minimum.{minimum-rows}
 use Rattle.covering.specs.Weighted.{Within, LeastCover}
 use Rattle.matrix.specs.Sets.{has, In, member}
 use Rattle.matrix.specs.Matrix.{covers, weightOf}
-use Rattle.chart_arrays.specs.Columns.{wordOf, rowColumn}
-use Rattle.chart_arrays.specs.Chart.{IsChart}
+use Rattle.chart_arrays.specs.Columns.{wordOf}
+use Rattle.chart_arrays.specs.Steps.{rowColumn, IsChart}
 use Rattle.chart_arrays.specs.declared.Arrays.{Arrays}
 use Rattle.chart_arrays.proofs.Columns.{has-word}
 use Rattle.plan.specs.Plan.{rowWeight, rowsOfCubes, Lightest, ascendsFrom, ascending, Chosen}

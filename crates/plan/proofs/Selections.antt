@@ -24,7 +24,8 @@ use Rattle.covering.proofs.Bounds.{hitter}
 use Rattle.matrix.specs.Sets.{has, In}
 use Rattle.matrix.specs.Matrix.{covers, weightOf}
 use Rattle.chart_arrays.specs.Columns.{column, columnsOf}
-use Rattle.chart_arrays.proofs.Columns.{has-word}
+use Rattle.chart_arrays.proofs.Columns.{bit-has}
+use Rattle.chart_arrays.proofs.Theorems.{word-tells}
 use Rattle.plan.specs.Plan.{rowWeight, weightOfCube, rowsOfCubes, ascendsFrom, ascending}
 use Rattle.plan.proofs.Weights.{rows-most, weight-orders}
 
@@ -47,7 +48,9 @@ module _ (n : ℕ) (t words weights : List ℕ) (chart : ChartOf n t words weigh
 
   -- a chart row covers the wanted codes that its cube matches
   covers-is : (i c : ℕ) → ChartRow i → has (getD words i 0) c ≡ (ltb c (2 ^ n) && column n t (cubeAt i) c)
-  covers-is i c l = ap (λ (w : ℕ). has w c) (chart .word i l) ∙ has-word (2 ^ n) (column n t (cubeAt i)) c
+  covers-is i c l =
+      ap (λ (w : ℕ). has w c) (chart .word i l)
+      ∙ bit-has (columnsOf n t (cubeAt i)) c (ltb c (2 ^ n) && column n t (cubeAt i) c) (word-tells n t (cubeAt i) .tells c)
 
   covers-by : (i c : ℕ) → ChartRow i → c < 2 ^ n → T (onSet t c) → T (cubeMatches n (cubeAt i) c) → covers words i c
   covers-by i c l k a m =

@@ -9,7 +9,7 @@ use lib.ListN.{length, take, getD}
 use Rattle.cube.specs.Words.{Cover, coverLiterals, cubeLiterals, rowOf, numberOf}
 use Rattle.cube.specs.Calls.{badWidth, badLength, badCell, short, when, firstOf, Answer, refuses, gives, answered, written}
 use Rattle.cube.specs.Minimum.{Minimum}
-use Rattle.chart_arrays.specs.Chart.{Cubes}
+use Rattle.chart_arrays.specs.Steps.{Cubes}
 use Rattle.search.specs.Search.{Coverable, MinimumCover}
 use Rattle.search.specs.declared.Solution.{Solution}
 use Rattle.plan.specs.declared.Planned.{Planned}

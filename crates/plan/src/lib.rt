@@ -17,7 +17,7 @@ ghost use Rattle.numbers.specs.Below.{those};
 ghost use Rattle.cube.specs.Calls.{widest};
 ghost use Rattle.cube.specs.Words.{valueOf, careOf};
 ghost use Rattle.matrix.specs.Sets.{member};
-ghost use Rattle.chart_arrays.specs.Chart.{Cubes};
+ghost use Rattle.chart_arrays.specs.Steps.{Cubes};
 ghost use Rattle.plan.specs.Plan.{planRefuses, Plans, rowWeight, Lightest, Chosen};
 
 // The number of rows and the sum of their tested bits, or the number of the refusal.

@@ -4,29 +4,32 @@ use mathlib.Core.List.{List}
 use Prim.Native.Nat.{ℕ, _^_, _<_, _≤_}
 use native.Mathlib.Omega.{arith}
 use lib.ListN.{length, getD}
-use lib.Seq.{sets}
 use borrow.Author.Needs.{needs}
 use Rattle.cube.specs.Words.{cubeLiterals, prime, primesOf}
 use Rattle.cube.specs.Calls.{widest}
+use Rattle.numbers.specs.Lent.{Puts}
 use Rattle.numbers.proofs.Below.{those-at}
 use Rattle.cube.proofs.Calls.{cubes-most, primes-most}
-use Rattle.numbers.proofs.Lent.{sets-at}
+use Rattle.numbers.proofs.Lent.{sets-at, front-count}
 use Rattle.chart_arrays.specs.Columns.{columnsOf}
-use Rattle.chart_arrays.specs.Chart.{Cubes}
+use Rattle.chart_arrays.specs.Steps.{Cubes}
 use Rattle.chart_arrays.proofs.build.Statement.{statement}
 use Rattle.chart_arrays.proofs.build.Tie as tie
 
--- the listed cubes, in 729 places
-module _ (n : ℕ) (t old cubes : List ℕ) (rows : ℕ) (w : n ≤ widest) (long : length old ≡ 729) (rows-is : rows ≡ length (primesOf n t)) (cubes-is : cubes ≡ sets old 0 (primesOf n t)) where
-  few : rows ≤ 729
-  few = omega (arith, primes-most n t, cubes-most n w)
+-- the listed cubes, in places for all cubes of the widest width
+module _ (n : ℕ) (t old cubes : List ℕ) (rows : ℕ) (w : n ≤ widest) (long : length old ≡ 3 ^ widest) (put : Puts (primesOf n t) old 0 cubes rows) where
+  rows-are : rows ≡ length (primesOf n t)
+  rows-are = front-count put
+
+  few : rows ≤ 3 ^ widest
+  few = omega (arith, rows-are, primes-most n t, cubes-most n w)
 
   at : (i : ℕ) → i < rows → getD cubes i 0 ≡ getD (primesOf n t) i 0
-  at i l = ap (λ (c : List ℕ). getD c i 0) cubes-is ∙ sets-at (primesOf n t) old i (omega (arith, few)) (omega arith)
+  at i l = ap (λ (c : List ℕ). getD c i 0) (put .places) ∙ sets-at (primesOf n t) old i (omega (arith, rows-are, few)) (omega (arith, rows-are))
 
   are-cubes : Cubes n cubes rows
   unfolding primesOf
-  are-cubes i l = subst⁻¹ (λ (q : ℕ). q < 3 ^ n) (at i l) (those-at (prime n t) (3 ^ n) i (omega arith) .0)
+  are-cubes i l = subst⁻¹ (λ (q : ℕ). q < 3 ^ n) (at i l) (those-at (prime n t) (3 ^ n) i (omega (arith, rows-are)) .0)
 
 slice-aggregate-list-primes : tie.Need-slice-aggregate-list-primes
 slice-aggregate-list-primes c = search needs
@@ -46,12 +49,12 @@ fill-words-requires c κs =
     let l = c .before .before .before .list-primes in
     let n = s .args .n in
     let t = s .args .table .now in
-    let most = few n t _ (l .last .1 .1 .0) (l .result) (s .pre .0) refl (l .ensures .0) (l .ensures .1) in (
+    let most = few n t _ (l .last .1 .1 .0) (l .result) (s .pre .0) refl (l .ensures) in (
       s .pre .0,
       s .pre .1,
       subst⁻¹ (λ (i : ℕ). l .result ≤ i) (l .kept .1 .1 .0) most,
       most,
-      are-cubes n t _ (l .last .1 .1 .0) (l .result) (s .pre .0) refl (l .ensures .0) (l .ensures .1),
+      are-cubes n t _ (l .last .1 .1 .0) (l .result) (s .pre .0) refl (l .ensures),
     )
 
 slice-aggregate-fill-literals : tie.Need-slice-aggregate-fill-literals
@@ -64,7 +67,7 @@ fill-literals-requires : tie.Need-fill-literals-requires
 fill-literals-requires c κs =
     let s = c .before .before .before .before .before .before .before .before .before .before in
     let l = c .before .before .before .before .before .before .before .list-primes in
-    let most = few (s .args .n) (s .args .table .now) _ (l .last .1 .1 .0) (l .result) (s .pre .0) refl (l .ensures .0) (l .ensures .1) in
+    let most = few (s .args .n) (s .args .table .now) _ (l .last .1 .1 .0) (l .result) (s .pre .0) refl (l .ensures) in
     (s .pre .0, subst⁻¹ (λ (i : ℕ). l .result ≤ i) (l .kept .1 .1 .0) most, most)
 
 returns : tie.Need-returns
@@ -73,10 +76,10 @@ returns c =
     let l = c .before .before .before .before .before .before .before .before .before .list-primes in
     let n = s .args .n in
     let t = s .args .table .now in
-    let held = at n t _ (l .last .1 .1 .0) (l .result) (s .pre .0) refl (l .ensures .0) (l .ensures .1) in
-    let most = few n t _ (l .last .1 .1 .0) (l .result) (s .pre .0) refl (l .ensures .0) (l .ensures .1) in
+    let held = at n t _ (l .last .1 .1 .0) (l .result) (s .pre .0) refl (l .ensures) in
+    let most = few n t _ (l .last .1 .1 .0) (l .result) (s .pre .0) refl (l .ensures) in
     record {
-      rows = l .ensures .0;
+      rows = rows-are n t _ (l .last .1 .1 .0) (l .result) (s .pre .0) refl (l .ensures);
       places = (
         subst⁻¹ (λ (i : ℕ). l .result ≤ i) (l .kept .1 .1 .0) most,
         subst⁻¹ (λ (i : ℕ). l .result ≤ i) (c .before .before .before .before .before .fill-words .kept .1 .1 .1 .1 .0) most,

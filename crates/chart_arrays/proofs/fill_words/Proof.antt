@@ -7,7 +7,7 @@ use borrow.Author.Needs.{needs}
 use Rattle.cube.specs.Calls.{widest}
 use Rattle.numbers.proofs.Lent.{fill-more}
 use Rattle.chart_arrays.specs.Columns.{columnsOf}
-use Rattle.chart_arrays.specs.Chart.{Cubes}
+use Rattle.chart_arrays.specs.Steps.{Cubes}
 use Rattle.chart_arrays.proofs.fill_words.Statement.{statement}
 use Rattle.chart_arrays.proofs.fill_words.Tie as tie
 

@@ -4,13 +4,15 @@ use Prim.Native.Nat.{ℕ, _-_, _^_, _<_, _≤_}
 use native.Mathlib.Omega.{arith}
 use lib.ListN.{length}
 use borrow.Author.Needs.{needs}
-use Rattle.chart_arrays.specs.Columns.{wordOf, rowColumn}
+use Rattle.matrix.specs.Sets.{columnLimit}
+use Rattle.chart_arrays.specs.Columns.{wordOf}
+use Rattle.chart_arrays.specs.Steps.{rowColumn}
 use Rattle.chart_arrays.proofs.Columns.{word-lt, word-more}
 use Rattle.chart_arrays.proofs.row_columns.Statement.{statement}
 use Rattle.chart_arrays.proofs.row_columns.Tie as tie
 
 abbrev Inv-loop : tie.InvT-loop
-Inv-loop table value care word₀ c₀ word c = (length table ≤ 64) × (c ≤ length table) × (word ≡ wordOf c (rowColumn table value care))
+Inv-loop table value care word₀ c₀ word c = (length table ≤ columnLimit) × (c ≤ length table) × (word ≡ wordOf c (rowColumn table value care))
 
 abbrev μ-loop : tie.MeasureT-loop
 μ-loop table value care word₀ c₀ word c = length table - c
@@ -22,7 +24,7 @@ loop-holds c = (search needs, search needs, refl)
 with-code-requires : tie.Need-with-code-requires Inv-loop μ-loop
 with-code-requires c κs =
     let i = c .before .loop .inv in
-    (c .loop-test .taken, omega arith, subst⁻¹ (λ (x : ℕ). x < 2 ^ c .before .loop .c) (i .2) (word-lt _ _))
+    record { code = c .loop-test .taken; column = omega arith; lower = subst⁻¹ (λ (x : ℕ). x < 2 ^ c .before .loop .c) (i .2) (word-lt _ _) }
 
 add-c : tie.Need-add-c Inv-loop μ-loop
 add-c c = omega arith

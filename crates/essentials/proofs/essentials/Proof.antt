@@ -29,8 +29,8 @@ same-length c = search needs
 returns-2 : tie.Need-returns-2
 returns-2 c =
     let s = c .before .before .before .before .before .before .before .before .args in
-    listing-done (s .n) (s .table .now) (essentialsOf (s .n) (s .table .now)) (s .out .now) (none (c .before .before .before .before)) (c .before .before .list-essentials .ensures .0)
-    (essentials-most (s .n) (s .table .now)) (c .before .before .list-essentials .ensures .1)
+    listing-done (s .n) (s .table .now) (essentialsOf (s .n) (s .table .now)) (s .out .now) (none (c .before .before .before .before))
+    (essentials-most (s .n) (s .table .now)) (c .before .before .list-essentials .ensures)
 
 pub essentials-spec : {M : Type 1} → statement M
 essentials-spec = tie.close (tie.spec listing-refusal-requires returns list-essentials-requires same-length returns-2)

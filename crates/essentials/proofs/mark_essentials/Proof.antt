@@ -5,8 +5,9 @@ use native.Mathlib.Omega.{arith}
 use lib.ListN.{length}
 use borrow.Author.Needs.{needs}
 use Rattle.numbers.specs.Below.{flag}
+use Rattle.cube.specs.Calls.{widest}
 use Rattle.cube.proofs.Calls.{cubes-most}
-use Rattle.essentials.specs.Essentials.{SoleColumns}
+use Rattle.essentials.specs.Steps.{SoleColumns}
 use Rattle.essentials.proofs.SoleEntries.{holder-is-essential}
 use Rattle.essentials.proofs.mark_essentials.Statement.{statement}
 use Rattle.essentials.proofs.mark_essentials.Tie as tie
@@ -25,7 +26,7 @@ prime-words-requires c κs =
         cells = s .pre .cells;
         enough = subst⁻¹ (λ (i : ℕ). 3 ^ s .args .n ≤ i) (c .before .before .before .before .mark-primes .kept .1 .1 .0) (s .pre .enough);
       },
-      c .before .before .before .before .mark-primes .ensures .0,
+      c .before .before .before .before .mark-primes .ensures .marks,
       cubes-most _ (s .pre .width),
     )
 
@@ -39,7 +40,7 @@ slice-aggregate-sole-columns c = search needs
 words-long : (c : tie.After-cubes) → c .cubes .result ≤ length (c .before .before .prime-words .last .1 .1 .1 .0)
 words-long c =
     subst⁻¹ (λ (i : ℕ). c .cubes .result ≤ i) (c .before .before .prime-words .kept .1 .1 .1 .0)
-    (subst⁻¹ (λ (i : ℕ). i ≤ 729) (c .cubes .ensures) (cubes-most _ (c .before .before .before .before .before .before .before .before .before .before .before .pre .width)))
+    (subst⁻¹ (λ (i : ℕ). i ≤ 3 ^ widest) (c .cubes .ensures) (cubes-most _ (c .before .before .before .before .before .before .before .before .before .before .before .pre .width)))
 
 sole-columns-requires : tie.Need-sole-columns-requires
 sole-columns-requires c κs = words-long (c .before)

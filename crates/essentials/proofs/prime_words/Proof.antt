@@ -12,7 +12,7 @@ use Rattle.numbers.proofs.Lent.{fill-more}
 use Rattle.primes.specs.Steps.{Flagged, Marks}
 use Rattle.primes.proofs.Flags.{marked-is}
 use Rattle.chart_arrays.specs.Columns.{columnsOf}
-use Rattle.essentials.specs.Essentials.{PrimeWords}
+use Rattle.essentials.specs.Steps.{PrimeWords}
 use Rattle.essentials.proofs.prime_words.Statement.{statement}
 use Rattle.essentials.proofs.prime_words.Tie as tie
 

@@ -4,7 +4,7 @@ use Prim.Native.Nat.{ℕ, _-_, _≤_}
 use native.Mathlib.Omega.{arith}
 use lib.ListN.{length}
 use borrow.Author.Needs.{needs}
-use Rattle.essentials.specs.Essentials.{Seen, SoleColumns}
+use Rattle.essentials.specs.Steps.{Seen, SoleColumns}
 use Rattle.essentials.proofs.SoleEntries.{seen-none, seen-more, sole-of}
 use Rattle.essentials.proofs.sole_columns.Statement.{statement}
 use Rattle.essentials.proofs.sole_columns.Tie as tie

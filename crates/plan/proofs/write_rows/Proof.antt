@@ -9,7 +9,7 @@ use borrow.Author.Needs.{needs}
 use Rattle.cube.specs.Words.{valueOf, careOf}
 use Rattle.cube.specs.Calls.{widest}
 use Rattle.numbers.proofs.Lent.{map-more}
-use Rattle.chart_arrays.specs.Chart.{Cubes}
+use Rattle.chart_arrays.specs.Steps.{Cubes}
 use Rattle.plan.proofs.write_rows.Statement.{statement}
 use Rattle.plan.proofs.write_rows.Tie as tie
 

@@ -1,5 +1,5 @@
 -- What the steps of Essentials hold: the word of each prime, the columns that one word alone has, and the primes that have such a column.
--- What Essentials refuses is what Primes refuses, and what it lists is `essentialsOf`. Assumes nothing.
+-- Assumes nothing.
 use mathlib.Core.Path.{_≡_}
 use Prim.Native.Nat.{ℕ, _<_}
 use mathlib.Core.Bool.{cond}

@@ -1,18 +1,30 @@
 -- The chart on parallel arrays, place i of each for the prime at place i: "one per prime in that order: cube number, a 64-bit word whose bit c tells
--- that wanted code c is matched, tested bits." Assumes nothing.
+-- that wanted code c is matched, tested bits." Chart, Essentials and Plan go by it; no promise of theirs cites it. Assumes nothing.
 use mathlib.Core.Path.{_≡_}
-use Prim.Native.Nat.{ℕ, _^_, _<_, _≤_}
+use mathlib.Core.Bool.{Bool, _&&_}
 use mathlib.Core.List.{List}
+use Prim.Native.Nat.{ℕ, _^_, _<_, _≤_}
 use lib.ListN.{length, getD}
-use Rattle.cube.specs.Words.{cubeLiterals, primesOf}
+use Rattle.cube.specs.Words.{onSet, rowMatches, cubeLiterals, primesOf}
+use Rattle.matrix.specs.Sets.{ColumnSet, columnLimit}
 use Rattle.chart_arrays.specs.Columns.{columnsOf}
 use Rattle.chart_arrays.specs.declared.Arrays.{Arrays}
+
+-- code c is wanted, and the row of value v and care w matches it
+abbrev pub rowColumn : List ℕ → ℕ → ℕ → ℕ → Bool
+rowColumn t v w c = onSet t c && rowMatches (record { value = v; care = w }) c
+
+-- a code of the table and a word of codes below it
+pub record CodeNext (t : List ℕ) (c : ℕ) (word : ColumnSet) : Type 0 where
+  pub code : c < length t
+  pub column : c < columnLimit
+  pub lower : word < 2 ^ c
 
 -- the prime at place i
 abbrev pub primeAt : ℕ → List ℕ → ℕ → ℕ
 primeAt n t i = getD (primesOf n t) i 0
 
--- the arrays hold the chart of a table: so many rows, and in place i of each what the prime at place i has
+-- the arrays hold the chart of a table: this many rows, and in place i of each what the prime at place i has
 pub record IsChart (n : ℕ) (t : List ℕ) (a : Arrays) : Type 0 where
   pub rows : a .rows ≡ length (primesOf n t)
   pub places : (a .rows ≤ length (a .cubes)) × (a .rows ≤ length (a .words)) × (a .rows ≤ length (a .literals))
