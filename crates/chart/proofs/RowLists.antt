@@ -15,7 +15,8 @@ use Rattle.chart_arrays.specs.Steps.{primeAt, IsChart}
 use Rattle.chart_arrays.specs.declared.Arrays.{Arrays}
 use Rattle.chart.specs.declared.ChartRow.{ChartRow}
 use Rattle.chart.specs.declared.Prepared.{Prepared}
-use Rattle.chart.specs.Rows.{chartRow, chartOf, Charted, rowAt, firstChartRows, arrayRows, toWrite, Prepares}
+use Rattle.chart.specs.Rows.{chartRow, chartOf, Charted}
+use Rattle.chart.specs.Steps.{rowAt, firstChartRows, arrayRows, toWrite, Prepares}
 
 -- ---- written one by one
 

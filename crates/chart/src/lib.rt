@@ -8,10 +8,11 @@ use cube::Counted;
 use spelling::MOST_CUBES;
 ghost use mathlib.Core.Path.{_≡_};
 ghost use mathlib.Core.List.{_++_};
-ghost use Prim.Native.Nat.{_<_, _≤_};
+ghost use Prim.Native.Nat.{_<_, _^_};
 ghost use lib.ListN.{length, drop};
-ghost use Rattle.cube.specs.Calls.{answered, countAnswer};
-ghost use Rattle.chart.specs.Rows.{Charted, Prepares, rowAt, arrayRows};
+ghost use Rattle.cube.specs.Calls.{widest, answered, countAnswer};
+ghost use Rattle.chart.specs.Rows.{Charted};
+ghost use Rattle.chart.specs.Steps.{rowAt, arrayRows, Copyable, Prepares};
 
 // A chart row: cube number, code word, tested bits.
 pub struct ChartRow {
@@ -22,7 +23,7 @@ pub struct ChartRow {
 
 // The row at place i of the parallel arrays.
 fn row_at(chart: Arrays, i: usize) -> ChartRow
-    requires { ⌜ i < 729 ⌝ }
+    requires { ⌜ i < 3 ^ widest ⌝ }
     ensures { λ r. ⌜ r ≡ rowAt chart i ⌝ }
 {
     ChartRow {
@@ -34,7 +35,7 @@ fn row_at(chart: Arrays, i: usize) -> ChartRow
 
 // Copies the chart into the first of the lent rows.
 fn fill(rows: &mut [ChartRow], chart: Arrays)
-    requires { ⌜ (chart .rows ≤ length (now rows)) × (chart .rows ≤ 729) ⌝ }
+    requires { ⌜ Copyable (length (now rows)) chart ⌝ }
     ensures { λ _. ⌜ now (rows .exit) ≡ arrayRows chart ++ drop (chart .rows) (now (rows .entry)) ⌝ }
 {
     let mut i = 0;
@@ -50,7 +51,7 @@ struct Prepared {
     chart: Arrays,
 }
 
-// The refusal for so many lent rows, and the chart to copy.
+// The refusal for this many lent rows, and the chart to copy.
 fn prepare(n: usize, table: &[u8], places: usize) -> Prepared
     ensures { λ r. ⌜ Prepares n (now (table .entry)) places r ⌝ }
 {

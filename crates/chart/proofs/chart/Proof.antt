@@ -46,7 +46,8 @@ use Rattle.chart_arrays.specs.declared.Arrays.{Arrays}
 use Rattle.chart.specs.declared.Prepared.{Prepared}
 use Rattle.cube.specs.Calls.{answered, countAnswer}
 use Rattle.cube.specs.declared.Counted.{Counted}
-use Rattle.chart.specs.Rows.{arrayRows, Charted, Prepares}
+use Rattle.chart.specs.Rows.{Charted}
+use Rattle.chart.specs.Steps.{arrayRows, Prepares}
 use Rattle.chart.proofs.RowLists.{charted}
 use Rattle.chart.proofs.ChartRow as R
 use Rattle.chart_arrays.proofs.Arrays as B

@@ -50,7 +50,8 @@ use denote.Exit.{yes}
 use denote.Signature.{plain}
 use Rattle.chart.specs.declared.ChartRow.{ChartRow}
 use Rattle.chart_arrays.specs.declared.Arrays.{Arrays}
-use Rattle.chart.specs.Rows.{rowAt}
+use Rattle.cube.specs.Calls.{widest}
+use Rattle.chart.specs.Steps.{rowAt, Copyable}
 use Rattle.chart.proofs.RowLists.{blank, upto, upto-none, length-upto, upto-more}
 use Rattle.chart.proofs.ChartRow as R
 use Rattle.chart.proofs.ChartRow.Laws as R′
@@ -101,7 +102,7 @@ row-at-says : {M : Type 1} (𝓤 : URA M) (H : Heap 𝓤) (A : Atoms 𝓤) (mem 
 row-at-says 𝓤 H A mem run c i r = exE 𝓤 _ (λ ws. snd∗ 𝓤 (sem 𝓤 H A (lasts row-at.ended tt (c, (i, tt)) ws)) (fact 𝓤 (r ≡ rowAt c i)))
 
 module _ {M : Type 1} (𝓤 : URA M) (H : Heap 𝓤) (A : Atoms 𝓤) (W : Given 𝓤 H A) (mem : Memory → SProp 𝓤) (run : Routine → Fun 𝓤) (κ : Lft) (q : Share) (b o : ℕ) (γ : GName) (ys : List ChartRow) (c : Arrays)
-    (g : Is B.the-row c (lowered c ∷ [])) (room : Room R.the-row (length ys)) (within : c .rows ≤ length ys) (small : c .rows ≤ 729) where
+    (g : Is B.the-row c (lowered c ∷ [])) (room : Room R.the-row (length ys)) (within : c .rows ≤ length ys) (small : c .rows ≤ 3 ^ widest) where
   abbrev n : ℕ
   n = c .rows
 
@@ -244,8 +245,8 @@ module _ {M : Type 1} (𝓤 : URA M) (H : Heap 𝓤) (A : Atoms 𝓤) (W : Given
   fill-walks : (𝓣 : Tables 𝓤 H) → Triple 𝓤 (𝓣 .C #chart·row-at) (RowAt 𝓤 H A mem run) → Walks 𝓤 H A fill.ended stayed (WpFn 𝓤 H (𝓣 .C) (𝓣 .Λ) code.function) (fill.clauses 𝓤 H A mem run)
   fill-walks 𝓣 known = walked 𝓤 H A fill.ended stayed (fill.clauses 𝓤 H A mem run) (WpFn 𝓤 H (𝓣 .C) (𝓣 .Λ) code.function)
       (λ κs. (slice-vals, (LL.vals B.the-type B′.the-laws, tt))) (λ κs. (mut-slice-tells (named 0) (κs .0) R.the-row, (LL.tells B.the-type B′.the-laws, tt)))
-      (λ κs qs bounds a g are. needs 𝓤 ((a .1 .0 .rows ≤ length (a .0 .now)) × (a .1 .0 .rows ≤ 729)) _ (λ h.
-      walk 𝓤 H A W mem run (κs .0) (qs .0) (a .0 .ptr .0) (a .0 .ptr .1) (a .0 .name) (a .0 .now) (a .1 .0) (are .1 .0) (are .0 .0 .1) (h .0) (h .1) 𝓣 known))
+      (λ κs qs bounds a g are. needs 𝓤 (Copyable (length (a .0 .now)) (a .1 .0)) _ (λ h.
+      walk 𝓤 H A W mem run (κs .0) (qs .0) (a .0 .ptr .0) (a .0 .ptr .1) (a .0 .name) (a .0 .now) (a .1 .0) (are .1 .0) (are .0 .0 .1) (h .lent) (h .few) 𝓣 known))
 
 fill-meets : {M : Type 1} (𝓤 : URA M) (H : Heap 𝓤) (A : Atoms 𝓤) → Given 𝓤 H A → (mem : Memory → SProp 𝓤) (run : Routine → Fun 𝓤) (𝓣 : Tables 𝓤 H) → Triple 𝓤 (𝓣 .C #chart·row-at) (RowAt 𝓤 H A mem run)
     → Meets 𝓤 H A fill.signature (WpFn 𝓤 H (𝓣 .C) (𝓣 .Λ) code.function) (fill.spec 𝓤 H A mem run)

@@ -8,7 +8,7 @@ use Rattle.cube.proofs.Calls.{cubes-most, primes-most}
 use Rattle.primes.specs.Primes.{primesRefuses}
 use Rattle.primes.proofs.Listing.{Listable, listable}
 use Rattle.chart.specs.declared.ChartRow.{ChartRow}
-use Rattle.chart.specs.Rows.{firstChartRows, toWrite}
+use Rattle.chart.specs.Steps.{firstChartRows, toWrite}
 use Rattle.chart.proofs.RowLists.{chart-rows}
 use Rattle.chart.proofs.prepare.Statement.{statement}
 use Rattle.chart.proofs.prepare.Tie as tie
@@ -25,7 +25,7 @@ listing-refusal-requires c κs = search needs
 
 returns : tie.Need-returns
 unfolding firstChartRows
-returns c = record { refusal = c .before .listing-refusal .ensures; fits = (omega arith, omega arith); rows = nothing _ _ (c .if1 .taken) }
+returns c = record { refusal = c .before .listing-refusal .ensures; fits = record { lent = omega arith; few = omega arith }; rows = nothing _ _ (c .if1 .taken) }
 
 build-requires : tie.Need-build-requires
 build-requires c κs = let a = c .before .before .before .args in let l = listable (a .n) (a .table .now) (a .places) (none c) in (l .table .to, l .table .cells)
@@ -37,10 +37,10 @@ returns-2 c =
     let b = c .build .ensures in
     record {
       refusal = sym (none (c .before));
-      fits = (
-        omega (arith, b .rows, primes-most (a .n) (a .table .now), l .enough),
-        omega (arith, b .rows, primes-most (a .n) (a .table .now), cubes-most (a .n) (l .table .to)),
-      );
+      fits = record {
+        lent = omega (arith, b .rows, primes-most (a .n) (a .table .now), l .enough);
+        few = omega (arith, b .rows, primes-most (a .n) (a .table .now), cubes-most (a .n) (l .table .to));
+      };
       rows = chart-rows (a .n) (a .table .now) _ b;
     }
 
