@@ -1,23 +1,25 @@
 -- The chosen list: the cubes of the picked rows are those of a shortest list, and its counts are read off the weight. Assumes nothing.
 use mathlib.Core.Path.{_≡_, refl, sym, ap, ap₂, _∙_, subst, subst⁻¹}
 use mathlib.Core.Bool.{Bool, _&&_}
-use mathlib.Core.List.{List, [], _∷_, _++_, map}
+use mathlib.Core.List.{List, [], _∷_, map}
 use Prim.Native.Nat.{ℕ, suc, _+_, _*_, _-_, _^_, _<_, _≤_}
 use native.Mathlib.Nat.{mul-le-mul-left}
 use native.Mathlib.Omega.{arith}
 use lib.Bits.{and-zero-r}
 use lib.Dec.{T, eqb, leb, le→leb, ltb, ltb→lt, lt→ltb}
-use lib.ListN.{length, length-map, take, drop, getD}
-use lib.Seq.{sets, length-sets, getD-take, take-append-seam}
+use lib.ListN.{length, length-map, take, getD}
+use lib.Seq.{getD-take}
 use borrow.Table.Elements.{length-take-le}
 use Rattle.numbers.specs.Below.{those}
 use Rattle.cube.specs.Words.{onSet, Cover, rowMatches, coverLiterals, rowOf, primesOf}
 use Rattle.cube.specs.Calls.{widest}
-use Rattle.cube.specs.Minimum as lists
+use Rattle.cube.specs.Minimum.{Minimum}
 use Rattle.numbers.proofs.Bools.{and-l, and-r, and-i, is-true, holds}
 use Rattle.numbers.proofs.Below.{those-ascend}
 use Rattle.cube.proofs.Calls.{codes-most, cubes-most, primes-most}
-use Rattle.numbers.proofs.Lent.{sets-front}
+use Rattle.numbers.specs.Lent.{Puts}
+use Rattle.numbers.proofs.Fronts.{front-is}
+use Rattle.numbers.proofs.Lent.{puts-long, front-count, front-places}
 use Rattle.cube.proofs.Minimum.{minimum-rows}
 use Rattle.covering.specs.Weighted.{Within, LeastCover}
 use Rattle.matrix.specs.Sets.{has, In, member}
@@ -26,7 +28,8 @@ use Rattle.chart_arrays.specs.Columns.{wordOf}
 use Rattle.chart_arrays.specs.Steps.{rowColumn, IsChart}
 use Rattle.chart_arrays.specs.declared.Arrays.{Arrays}
 use Rattle.chart_arrays.proofs.Columns.{has-word}
-use Rattle.plan.specs.Plan.{rowWeight, rowsOfCubes, Lightest, ascendsFrom, ascending, Chosen}
+use Rattle.plan.specs.Plan.{ascendsFrom, ascending}
+use Rattle.plan.specs.Steps.{rowWeight, rowsOfCubes, Lightest, Chosen, pickedCubes}
 use Rattle.search.specs.Search.{Coverable}
 use Rattle.search.specs.declared.Solution.{Solution}
 use Rattle.plan.proofs.Selections.{ChartOf, cubeAt, listOf, list-weight, minimum-list, coverable, cubes-below, ascending-list}
@@ -72,8 +75,13 @@ ascends-by b (x ∷ xs) l a =
 those-ascending : (m : ℕ) (p : ℕ → Bool) → T (ascending (those m p))
 those-ascending m p = ascends-by 0 (those m p) (λ i l. omega arith) (those-ascend p m)
 
+-- a cube is listed for each picked row
+pub picked-count : (picked cubes : List ℕ) (rows : ℕ) {old new : List ℕ} {count : ℕ} → Puts (pickedCubes picked cubes rows) old 0 new count
+    → count ≡ length (those rows (member picked))
+picked-count picked cubes rows put = front-count put ∙ length-map (those rows (member picked)) (λ (i : ℕ). getD cubes i 0)
+
 -- the rows of a chart are at most all cubes
-pub rows-most : (n : ℕ) (t : List ℕ) → n ≤ widest → (a : Arrays) → IsChart n t a → a .rows ≤ 729
+pub rows-most : (n : ℕ) (t : List ℕ) → n ≤ widest → (a : Arrays) → IsChart n t a → a .rows ≤ 3 ^ widest
 rows-most n t w a chart = omega (arith, chart .rows, primes-most n t, cubes-most n w)
 
 small-lists : (n : ℕ) → n ≤ widest → n * 2 ^ n < rowWeight
@@ -117,7 +125,7 @@ module _ (n : ℕ) (t : List ℕ) (width : n ≤ widest) (cells : length t ≡ 2
   list : Cover
   list = listOf n t words (light .weights) of-chart L
 
-  list-minimum : lists.Minimum n t list
+  list-minimum : Minimum n t list
   unfolding list
   list-minimum =
       minimum-list n t words (light .weights) of-chart (small-lists n width) u (found .weight) (λ c h. wanted-columns n t cells c (subst (λ (x : ℕ). In x c) u-is h))
@@ -128,7 +136,7 @@ module _ (n : ℕ) (t : List ℕ) (width : n ≤ widest) (cells : length t ≡ 2
   count-is = length-map (map (cubeAt n t words (light .weights) of-chart) L) (rowOf n) ∙ length-map L (cubeAt n t words (light .weights) of-chart)
 
   -- the picked rows are no more than the places of a list
-  pub picked-most : length (those (a .rows) (member (found .picked))) ≤ 64
+  pub picked-most : length (those (a .rows) (member (found .picked))) ≤ 2 ^ widest
   picked-most = omega (arith, count-is, minimum-rows n t list list-minimum, codes-most n width)
 
   weight-is : found .weight ≡ rowWeight * length list + coverLiterals n list
@@ -138,14 +146,16 @@ module _ (n : ℕ) (t : List ℕ) (width : n ≤ widest) (cells : length t ≡ 2
   pub weight-most : rowWeight * length (those (a .rows) (member (found .picked))) ≤ found .weight
   weight-most = omega (arith, count-is, weight-is)
 
-  module _ (old cubes : List ℕ) (count : ℕ) (long : length old ≡ 64) (count-has : count ≡ length (those (a .rows) (member (found .picked))))
-      (cubes-are : cubes ≡ sets old 0 (map (λ (i : ℕ). getD (a .cubes) i 0) (those (a .rows) (member (found .picked))))) where
+  module _ (old cubes : List ℕ) (count : ℕ) (long : length old ≡ 2 ^ widest) (put : Puts (pickedCubes (found .picked) (a .cubes) (a .rows)) old 0 cubes count) where
     xs : List ℕ
-    xs = map (λ (i : ℕ). getD (a .cubes) i 0) (those (a .rows) (member (found .picked)))
+    xs = pickedCubes (found .picked) (a .cubes) (a .rows)
 
     xs-long : length xs ≡ count
     unfolding xs
-    xs-long = length-map (those (a .rows) (member (found .picked))) (λ (i : ℕ). getD (a .cubes) i 0) ∙ sym count-has
+    xs-long = sym (front-count put)
+
+    count-has : count ≡ length (those (a .rows) (member (found .picked)))
+    count-has = picked-count (found .picked) (a .cubes) (a .rows) put
 
     xs-are : xs ≡ map (cubeAt n t words (light .weights) of-chart) L
     unfolding xs L
@@ -155,9 +165,7 @@ module _ (n : ℕ) (t : List ℕ) (width : n ≤ widest) (cells : length t ≡ 2
 
     front : take count cubes ≡ xs
     unfolding xs
-    front =
-        ap (take count) (cubes-are ∙ sets-front xs old (omega (arith, xs-long, picked-most))) ∙ ap (λ (k : ℕ). take k (xs ++ drop (length xs) old)) (sym xs-long)
-        ∙ take-append-seam xs (drop (length xs) old)
+    front = front-is xs old (front-count put) (front-places put (omega (arith, xs-long, count-has, picked-most, long)))
 
     cubes-front : take count cubes ≡ map (cubeAt n t words (light .weights) of-chart) L
     cubes-front = front ∙ xs-are
@@ -165,12 +173,12 @@ module _ (n : ℕ) (t : List ℕ) (width : n ≤ widest) (cells : length t ≡ 2
     pub chosen : Chosen n t cubes count (found .weight - rowWeight * count)
     unfolding list L xs
     chosen = record {
-      within = omega (arith, ap length cubes-are ∙ length-sets old 0 xs, long, picked-most, count-has);
+      within = omega (arith, puts-long put, long, picked-most, count-has);
       below = λ i l.
           subst (λ (q : ℕ). q < 3 ^ n) (getD-take count cubes i 0 l)
           (subst⁻¹ (λ (qs : List ℕ). getD qs i 0 < 3 ^ n) cubes-front
           (cubes-below n t words (light .weights) of-chart L (minimum-selection .within) i (omega (arith, xs-long, ap length xs-are))));
-      minimum = subst⁻¹ (λ (qs : List ℕ). lists.Minimum n t (rowsOfCubes n qs)) cubes-front list-minimum;
+      minimum = subst⁻¹ (λ (qs : List ℕ). Minimum n t (rowsOfCubes n qs)) cubes-front list-minimum;
       is-ascending =
           subst⁻¹ (λ (qs : List ℕ). T (ascending qs)) cubes-front
           (ascending-list n t words (light .weights) of-chart L (those-ascending (a .rows) (member (found .picked))) (minimum-selection .within));

@@ -5,14 +5,16 @@ use Prim.Native.Nat.{ℕ, zero, suc, _^_, _<_, _≤_}
 use native.Mathlib.Omega.{arith}
 use lib.Dec.{T}
 use lib.ListN.{length, length-map, take, getD}
-use lib.Seq.{sets, getD-take}
+use lib.Seq.{getD-take}
 use borrow.Table.Elements.{length-take-le}
 use Rattle.cube.specs.Words.{Cover, rowOf, numberOf, valueOf, careOf}
 use Rattle.cube.specs.Calls.{gives, answered, written}
 use Rattle.cube.proofs.Rows.{number-of-row}
-use Rattle.numbers.proofs.Lent.{sets-front}
+use Rattle.numbers.specs.Lent.{Puts}
+use Rattle.numbers.proofs.Lent.{front-count, front-places}
 use Rattle.cube.proofs.Minimum.{minimum-rows}
-use Rattle.plan.specs.Plan.{planRefuses, totalsOf, ascending, Plans, rowsOfCubes, Chosen}
+use Rattle.plan.specs.Plan.{planRefuses, totalsOf, ascending, Plans}
+use Rattle.plan.specs.Steps.{rowsOfCubes, Chosen, SpelledInto}
 use Rattle.plan.specs.declared.Planned.the-variants.{Rows, Refused}
 use Rattle.plan.proofs.Refusals.{Plannable, plannable}
 
@@ -54,15 +56,13 @@ module _ (n : ℕ) (t values cares : List ℕ) where
     numbers =
         numbers-from qs (λ i l. let k : i < count = omega (arith, length-take-le count cubes (chosen .within)) in subst⁻¹ (λ (q : ℕ). q < 3 ^ n) (getD-take count cubes i 0 k) (chosen .below i k))
 
-    module _ (none : refusal ≡ 0) (values′ cares′ : List ℕ) (values-are : values′ ≡ sets values 0 (map (valueOf n) qs)) (cares-are : cares′ ≡ sets cares 0 (map (careOf n) qs)) where
+    module _ (none : refusal ≡ 0) (values′ cares′ : List ℕ) (put : SpelledInto n cubes count values cares values′ cares′) where
       places : Plannable n t (length values) (length cares)
       places = plannable n t (length values) (length cares) none
 
       -- an array afterwards: the list's numbers from the first place on, and behind them what was
-      spelled : (f : ℕ → ℕ) (old new : List ℕ) → 2 ^ n ≤ length old → new ≡ sets old 0 (map f qs) → new ≡ written refusal (map f qs) old
-      spelled f old new l e =
-          e ∙ sets-front (map f qs) old (omega (arith, count-most, length-map qs f, length-take-le count cubes (chosen .within)))
-          ∙ ap (λ (i : ℕ). written i (map f qs) old) (sym none)
+      spelled : (f : ℕ → ℕ) (old new : List ℕ) → 2 ^ n ≤ length old → Puts (map f qs) old 0 new count → new ≡ written refusal (map f qs) old
+      spelled f old new l p = front-places p (omega (arith, count-most, front-count p)) ∙ ap (λ (i : ℕ). written i (map f qs) old) (sym none)
 
       pub plan-done : Plans n t values cares values′ cares′ (Rows count bits)
       unfolding list
@@ -72,6 +72,6 @@ module _ (n : ℕ) (t values cares : List ℕ) where
         is-ascending = λ z. subst⁻¹ (λ (l : List ℕ). T (ascending l)) numbers (chosen .is-ascending);
         answer =
             ap₂ (λ (r b : ℕ). gives (record { rows = r; bits = b })) (sym rows-are) (chosen .counts) ∙ ap (λ (i : ℕ). answered i (totalsOf n list)) (sym none);
-        values-are = spelled (valueOf n) values values′ (places .enough-values) values-are ∙ ap (λ (l : List ℕ). written refusal l values) (sym (map-map (λ r. r .value) (rowOf n) qs));
-        cares-are = spelled (careOf n) cares cares′ (places .enough-cares) cares-are ∙ ap (λ (l : List ℕ). written refusal l cares) (sym (map-map (λ r. r .care) (rowOf n) qs));
+        values-are = spelled (valueOf n) values values′ (places .enough-values) (put .values-put) ∙ ap (λ (l : List ℕ). written refusal l values) (sym (map-map (λ r. r .value) (rowOf n) qs));
+        cares-are = spelled (careOf n) cares cares′ (places .enough-cares) (put .cares-put) ∙ ap (λ (l : List ℕ). written refusal l cares) (sym (map-map (λ r. r .care) (rowOf n) qs));
       }

@@ -26,7 +26,8 @@ use Rattle.matrix.specs.Matrix.{covers, weightOf}
 use Rattle.chart_arrays.specs.Columns.{column, columnsOf}
 use Rattle.chart_arrays.proofs.Columns.{bit-has}
 use Rattle.chart_arrays.proofs.Theorems.{word-tells}
-use Rattle.plan.specs.Plan.{rowWeight, weightOfCube, rowsOfCubes, ascendsFrom, ascending}
+use Rattle.plan.specs.Plan.{ascendsFrom, ascending}
+use Rattle.plan.specs.Steps.{rowWeight, weightOfCube, rowsOfCubes}
 use Rattle.plan.proofs.Weights.{rows-most, weight-orders}
 
 -- the chart on two lists: the word and the weight of each prime, in the primes' order

@@ -6,7 +6,7 @@ use native.Mathlib.Nat.{eq-or-lt-of-le, mul-le-mul-left}
 use native.Mathlib.Omega.{arith}
 use Rattle.cube.specs.Minimum.{NoBetter}
 use Rattle.numbers.proofs.Bools.{lt-or-le}
-use Rattle.plan.specs.Plan.{rowWeight}
+use Rattle.plan.specs.Steps.{rowWeight}
 
 -- few rows test few bits
 few-bits : (n rows bits : ℕ) → n * 2 ^ n < rowWeight → rows ≤ 2 ^ n → bits ≤ n * rows → bits < rowWeight

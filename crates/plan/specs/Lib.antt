@@ -1,3 +1,4 @@
--- What Plan promises, and what follows for the arrays.
+-- What Plan promises, what follows for the arrays, and what its steps leave.
 pub mod Plan
 pub mod Theorems
+pub mod Steps

@@ -2,16 +2,13 @@
 -- the sum of their tested bits. [..] Refuses 1, 2, 3, then 4 when either array is below 2^n places." And demand 3, as one record. Assumes nothing.
 use mathlib.Core.Path.{_≡_}
 use mathlib.Core.Bool.{Bool, true, _&&_, _||_}
-use mathlib.Core.List.{List, [], _∷_, map}
-use Prim.Native.Nat.{ℕ, suc, _+_, _^_, _<_, _≤_}
+use mathlib.Core.List.{List, [], _∷_, _++_, map}
+use Prim.Native.Nat.{ℕ, suc, _^_}
 use lib.Dec.{T, leb}
-use lib.ListN.{length, take, getD}
-use Rattle.cube.specs.Words.{Cover, coverLiterals, cubeLiterals, rowOf, numberOf}
-use Rattle.cube.specs.Calls.{badWidth, badLength, badCell, short, when, firstOf, Answer, refuses, gives, answered, written}
+use lib.ListN.{length}
+use Rattle.cube.specs.Words.{Cover, coverLiterals, numberOf}
+use Rattle.cube.specs.Calls.{short, when, firstOf, tableConditions, Answer, refuses, gives, answered, written}
 use Rattle.cube.specs.Minimum.{Minimum}
-use Rattle.chart_arrays.specs.Steps.{Cubes}
-use Rattle.search.specs.Search.{Coverable, MinimumCover}
-use Rattle.search.specs.declared.Solution.{Solution}
 use Rattle.plan.specs.declared.Planned.{Planned}
 use Rattle.plan.specs.declared.Planned.the-variants as planned
 
@@ -19,11 +16,9 @@ use Rattle.plan.specs.declared.Planned.the-variants as planned
 abbrev pub planPlaces : ℕ → ℕ
 planPlaces n = 2 ^ n
 
--- the number that Plan refuses with, or 0, for arrays of so many places
+-- the number that Plan refuses with, or 0, for arrays of these lengths
 abbrev pub planRefuses : ℕ → List ℕ → ℕ → ℕ → ℕ
-planRefuses n t values cares =
-    firstOf
-    (when (badWidth n) 1 ∷ when (badLength n t) 2 ∷ when (badCell t) 3 ∷ when (short values (planPlaces n) || short cares (planPlaces n)) 4 ∷ [])
+planRefuses n t values cares = firstOf (tableConditions n t ++ (when (short values (planPlaces n) || short cares (planPlaces n)) 4 ∷ []))
 
 -- "the number of rows and the sum of their tested bits"
 pub record Totals : Type 0 where
@@ -67,30 +62,3 @@ pub record Plans (n : ℕ) (t values cares values′ cares′ : List ℕ) (r : P
   -- "whatever the two arrays held before, take from the first place of each as many places as the row count returned"; on refusal, unchanged
   pub values-are : values′ ≡ written (planRefuses n t (length values) (length cares)) (valuesOf list) values
   pub cares-are : cares′ ≡ written (planRefuses n t (length values) (length cares)) (caresOf list) cares
-
--- ---- the steps
-
--- a row's weight: rows count first, then literals
-abbrev pub rowWeight : ℕ
-rowWeight = 10000
-
-abbrev pub weightOfCube : ℕ → ℕ → ℕ
-weightOfCube n q = rowWeight + cubeLiterals n q
-
--- a minimum cover of the columns by chart rows of these words and literals, where each column has a row
-pub record Lightest (words literals : List ℕ) (columns : ℕ) (a : Solution) : Type 0 where
-  pub weights : List ℕ
-  pub weigh : (i : ℕ) → i < length words → getD weights i 0 ≡ rowWeight + getD literals i 0
-  pub minimum : Coverable words columns → MinimumCover words weights columns (a .weight) (a .picked)
-
--- the rows of some cubes
-abbrev pub rowsOfCubes : ℕ → List ℕ → Cover
-rowsOfCubes n qs = map (rowOf n) qs
-
--- the first count places hold the cubes of a shortest list, ascending, which has so many tested bits
-pub record Chosen (n : ℕ) (t cubes : List ℕ) (count bits : ℕ) : Type 0 where
-  pub within : count ≤ length cubes
-  pub below : Cubes n cubes count
-  pub minimum : Minimum n t (rowsOfCubes n (take count cubes))
-  pub is-ascending : T (ascending (take count cubes))
-  pub counts : bits ≡ coverLiterals n (rowsOfCubes n (take count cubes))

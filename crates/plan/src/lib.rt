@@ -4,21 +4,21 @@
 //     let mut values = [0u8; 4];
 //     let mut cares = [0u8; 4];
 //     plan::plan(2, &[0, 1, 1, 1], &mut values, &mut cares)   // 2 rows, 2 bits: 1- and -1, values 2 1, cares 2 1
+use matrix::columns;
 use matrix::rows;
 use search::Solution;
 use spelling::MOST_CODES;
 use spelling::MOST_CUBES;
 ghost use mathlib.Core.Path.{_≡_};
-ghost use mathlib.Core.List.{map};
-ghost use Prim.Native.Nat.{ℕ, _+_, _*_, _<_, _≤_, _^_};
+ghost use Prim.Native.Nat.{ℕ, _+_, _<_, _≤_, _^_};
 ghost use lib.ListN.{length, take, getD};
-ghost use lib.Seq.{sets};
-ghost use Rattle.numbers.specs.Below.{those};
+ghost use Rattle.numbers.specs.Lent.{Puts};
 ghost use Rattle.cube.specs.Calls.{widest};
-ghost use Rattle.cube.specs.Words.{valueOf, careOf};
-ghost use Rattle.matrix.specs.Sets.{member};
-ghost use Rattle.chart_arrays.specs.Steps.{Cubes};
-ghost use Rattle.plan.specs.Plan.{planRefuses, Plans, rowWeight, Lightest, Chosen};
+ghost use Rattle.plan.specs.Plan.{planRefuses, Plans};
+ghost use Rattle.plan.specs.Steps.{rowWeight, Lightest, Chosen, Pickable, pickedCubes, Spellable, SpelledInto};
+
+// What a row weighs, its tested bits apart.
+const ROW_WEIGHT: usize = 10000;
 
 // The number of rows and the sum of their tested bits, or the number of the refusal.
 pub enum Planned {
@@ -40,15 +40,15 @@ fn fill_weights(literals: &[u8], count: usize, weights: &mut [u32])
 {
     let mut i = 0;
     while i < count {
-        weights[i] = 10000 + literals[i] as u32;
+        weights[i] = ROW_WEIGHT as u32 + literals[i] as u32;
         i += 1;
     }
 }
 
 // The cubes of the picked rows, ascending; how many there are.
-fn list_picked(picked: &[u64; 12], cubes: &[u16], rows: usize, list: &mut [u16]) -> usize
-    requires { ⌜ (rows ≤ 768) × (rows ≤ length (now cubes)) × (length (those rows (member (now picked))) ≤ length (now list)) ⌝ }
-    ensures { λ r. ⌜ (r ≡ length (those rows (member (now (picked .entry))))) × (now (list .exit) ≡ sets (now (list .entry)) 0 (map (λ (i : ℕ). getD (now (cubes .entry)) i 0) (those rows (member (now (picked .entry)))))) ⌝ }
+fn list_picked(picked: &rows::Set, cubes: &[u16], rows: usize, list: &mut [u16]) -> usize
+    requires { ⌜ Pickable (now picked) (now cubes) rows (now list) ⌝ }
+    ensures { λ r. ⌜ Puts (pickedCubes (now (picked .entry)) (now (cubes .entry)) rows) (now (list .entry)) 0 (now (list .exit)) r ⌝ }
 {
     let mut count = 0;
     let mut i = 0;
@@ -64,8 +64,8 @@ fn list_picked(picked: &[u64; 12], cubes: &[u16], rows: usize, list: &mut [u16])
 
 // The values and the cares of the first cubes, from the first place on.
 fn write_rows(n: usize, cubes: &[u16], count: usize, values: &mut [u8], cares: &mut [u8])
-    requires { ⌜ (n ≤ widest) × (count ≤ length (now cubes)) × (count ≤ length (now values)) × (count ≤ length (now cares)) × Cubes n (now cubes) count ⌝ }
-    ensures { λ _. ⌜ (now (values .exit) ≡ sets (now (values .entry)) 0 (map (valueOf n) (take count (now (cubes .entry))))) × (now (cares .exit) ≡ sets (now (cares .entry)) 0 (map (careOf n) (take count (now (cubes .entry))))) ⌝ }
+    requires { ⌜ Spellable n (now cubes) count (now values) (now cares) ⌝ }
+    ensures { λ _. ⌜ SpelledInto n (now (cubes .entry)) count (now (values .entry)) (now (cares .entry)) (now (values .exit)) (now (cares .exit)) ⌝ }
 {
     let mut i = 0;
     while i < count {
@@ -77,8 +77,8 @@ fn write_rows(n: usize, cubes: &[u16], count: usize, values: &mut [u8], cares: &
 }
 
 // The lightest selection of the first rows that covers the columns.
-fn lightest<'a>(words: &'a [u64], literals: &'a [u8], rows: usize, columns: u64) -> Solution
-    requires { ⌜ (rows ≤ 729) × (rows ≤ length (now words)) × (rows ≤ length (now literals)) ⌝ }
+fn lightest<'a>(words: &'a [u64], literals: &'a [u8], rows: usize, columns: columns::Set) -> Solution
+    requires { ⌜ (rows ≤ 3 ^ widest) × (rows ≤ length (now words)) × (rows ≤ length (now literals)) ⌝ }
     ensures { λ r. ⌜ Lightest (take rows (now (words .entry))) (now (literals .entry)) columns r ⌝ }
 {
     let mut weights = [0u32; MOST_CUBES];
@@ -102,7 +102,7 @@ pub fn shortest(n: usize, table: &[u8]) -> CubeList
     let count = list_picked(&found.picked, &chart.cubes, chart.rows, &mut cubes);
     CubeList {
         count,
-        bits: found.weight as usize - 10000 * count,
+        bits: found.weight as usize - ROW_WEIGHT * count,
         cubes,
     }
 }

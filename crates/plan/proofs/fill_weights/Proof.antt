@@ -5,7 +5,7 @@ use native.Mathlib.Omega.{arith}
 use lib.ListN.{length, length-set, getD}
 use borrow.Author.Needs.{needs}
 use Rattle.numbers.proofs.Lent.{fill-more}
-use Rattle.plan.specs.Plan.{rowWeight}
+use Rattle.plan.specs.Steps.{rowWeight}
 use Rattle.plan.proofs.fill_weights.Statement.{statement}
 use Rattle.plan.proofs.fill_weights.Tie as tie
 
@@ -20,11 +20,14 @@ abbrev μ-loop : tie.MeasureT-loop
 loop-holds : tie.Need-loop-holds Inv-loop μ-loop
 loop-holds c = (search needs, search needs, refl, search needs, λ k l. absurd (omega arith))
 
+cast-weights : tie.Need-cast-weights Inv-loop μ-loop
+cast-weights c = search needs
+
 shared-slice-read-weights : tie.Need-shared-slice-read-weights Inv-loop μ-loop
 shared-slice-read-weights c = omega arith
 
-cast-weights : tie.Need-cast-weights Inv-loop μ-loop
-cast-weights c = omega (arith, c .shared-slice-known .given (c .before .before .loop .i))
+cast-weights-2 : tie.Need-cast-weights-2 Inv-loop μ-loop
+cast-weights-2 c = omega (arith, c .shared-slice-known .given (c .before .before .loop .i))
 
 add-weights : tie.Need-add-weights Inv-loop μ-loop
 add-weights c = omega (arith, c .shared-slice-known .given (c .before .before .loop .i))
@@ -60,5 +63,5 @@ returns c = λ k l. c .before .loop .inv .4 k (omega arith)
 pub fill-weights-spec : {M : Type 1} → statement M
 fill-weights-spec =
     tie.close
-    (tie.spec Inv-loop μ-loop loop-holds shared-slice-read-weights cast-weights add-weights mul-weights slice-write-weights add-i loop-less loop-again
+    (tie.spec Inv-loop μ-loop loop-holds cast-weights shared-slice-read-weights cast-weights-2 add-weights mul-weights slice-write-weights add-i loop-less loop-again
     same-length returns)

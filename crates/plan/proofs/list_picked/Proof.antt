@@ -5,33 +5,32 @@ use Prim.Native.Nat.{ℕ, _-_, _≤_}
 use native.Mathlib.Omega.{arith}
 use lib.ListN.{length, getD}
 use borrow.Author.Needs.{needs}
-use Rattle.numbers.specs.Below.{those}
 use Rattle.numbers.proofs.Below.{count-found}
-use Rattle.numbers.proofs.Lent.{Collected, collect-none, collect-yes, collect-no, collect-le, collect-long, collected}
+use Rattle.numbers.proofs.Lent.{Collected, collect-none, collect-yes, collect-no, collect-counts, collect-le, collect-long, collected}
 use Rattle.matrix.specs.Sets.{member}
+use Rattle.plan.specs.Steps.{Pickable}
 use Rattle.plan.proofs.list_picked.Statement.{statement}
 use Rattle.plan.proofs.list_picked.Tie as tie
 
 abbrev Inv-loop : tie.InvT-loop
 Inv-loop picked cubes rows list₀ count₀ i₀ list count i =
-    (rows ≤ 768) × (rows ≤ length cubes) × (length (those rows (member picked)) ≤ length list₀) × (i ≤ rows)
-    × Collected (λ (k : ℕ). getD cubes k 0) (member picked) list₀ list i count
+    Pickable picked cubes rows list₀ × (i ≤ rows) × Collected (λ (k : ℕ). getD cubes k 0) (member picked) list₀ list i count
 
 abbrev μ-loop : tie.MeasureT-loop
 μ-loop picked cubes rows list₀ count₀ i₀ list count i = rows - i
 
 loop-holds : tie.Need-loop-holds Inv-loop μ-loop
-loop-holds c = (search needs, search needs, search needs, search needs, collect-none _ _ _)
+loop-holds c = (search needs, search needs, collect-none _ _ _)
 
 has-requires : tie.Need-has-requires Inv-loop μ-loop
 has-requires c κs = omega arith
 
 -- at the test of i: the count is at most i, and the places are as many as before
 fewer : (c : tie.In-loop Inv-loop μ-loop) → c .before .loop .count ≤ c .before .loop .i
-fewer c = collect-le _ _ _ _ _ _ (c .before .loop .inv .4)
+fewer c = collect-le _ _ _ _ _ _ (c .before .loop .inv .2)
 
 long : (c : tie.In-loop Inv-loop μ-loop) → length (c .before .loop .list) ≡ length (c .before .before .before .before .args .list .now)
-long c = collect-long _ _ _ _ _ _ (c .before .loop .inv .4)
+long c = collect-long _ _ _ _ _ _ (c .before .loop .inv .2)
 
 mul-list : tie.Need-mul-list Inv-loop μ-loop
 mul-list c = omega arith
@@ -45,7 +44,7 @@ mul-list-2 c = omega (arith, fewer (c .before .before .before))
 slice-write-list : tie.Need-slice-write-list Inv-loop μ-loop
 slice-write-list c =
     let i = c .before .before .before .before .loop .inv in
-    omega (arith, long (c .before .before .before), i .4 .counts, count-found (member (c .before .before .before .before .before .before .before .args .picked .now)) _ (c .before .before .before .before .before .before .before .args .rows) (omega arith) (sym (c .before .before .has .ensures) ∙ c .before .if1 .taken))
+    omega (arith, long (c .before .before .before), collect-counts _ _ _ _ _ _ (i .2), count-found (member (c .before .before .before .before .before .before .before .args .picked .now)) _ (c .before .before .before .before .before .before .before .args .rows) (omega arith) (sym (c .before .before .has .ensures) ∙ c .before .if1 .taken))
 
 add-count : tie.Need-add-count Inv-loop μ-loop
 add-count c = omega (arith, fewer (c .before .before .before))
@@ -60,18 +59,16 @@ loop-again : tie.Need-loop-again Inv-loop μ-loop
 loop-again c =
     let i = c .before .before .before .loop .inv in (
       i .0,
-      i .1,
-      i .2,
       omega arith,
-      ⊎-elim (λ w. collect-yes _ _ _ _ _ _ (i .4) (sym (c .before .has .ensures) ∙ w .0 .taken) (w .2) (w .3))
-          (λ w. collect-no _ _ _ _ _ _ (i .4) (sym (c .before .has .ensures) ∙ w .0 .left) (w .1) (w .2)) (c .if1 .came),
+      ⊎-elim (λ w. collect-yes _ _ _ _ _ _ (i .2) (sym (c .before .has .ensures) ∙ w .0 .taken) (w .2) (w .3))
+          (λ w. collect-no _ _ _ _ _ _ (i .2) (sym (c .before .has .ensures) ∙ w .0 .left) (w .1) (w .2)) (c .if1 .came),
     )
 
 same-length : tie.Need-same-length Inv-loop μ-loop
-same-length c = collect-long _ _ _ _ _ _ (c .before .loop .inv .4)
+same-length c = collect-long _ _ _ _ _ _ (c .before .loop .inv .2)
 
 returns : tie.Need-returns Inv-loop μ-loop
-returns c = collected _ _ _ _ _ _ (c .before .loop .inv .4) (omega arith)
+returns c = collected _ _ _ _ _ _ (c .before .loop .inv .2) (omega arith)
 
 pub list-picked-spec : {M : Type 1} → statement M
 list-picked-spec =

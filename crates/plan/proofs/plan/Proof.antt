@@ -32,7 +32,13 @@ write-rows-requires c κs =
     let p = plannable (s .n) (s .table .now) (length (s .values .now)) (length (s .cares .now)) (none (c .before .before .before .before .before .before)) in
     let chosen = c .before .before .before .before .before .shortest .ensures in
     let most = count-most (s .n) (s .table .now) (s .values .now) (s .cares .now) _ _ _ chosen in
-    (p .table .to, chosen .within, omega (arith, most, p .enough-values), omega (arith, most, p .enough-cares), chosen .below)
+    record {
+      width = p .table .to;
+      cubes-long = chosen .within;
+      values-long = omega (arith, most, p .enough-values);
+      cares-long = omega (arith, most, p .enough-cares);
+      below = chosen .below;
+    }
 
 same-length : tie.Need-same-length
 same-length c = search needs
@@ -44,7 +50,7 @@ returns-2 : tie.Need-returns-2
 returns-2 c =
     let s = c .before .before .before .before .before .before .before .before .before .before .before .before .before .before .before .before .args in
     let rows = c .before .before .before .before .write-rows .ensures in
-    plan-done (s .n) (s .table .now) (s .values .now) (s .cares .now) _ _ _ (c .before .before .before .before .before .before .before .before .before .before .shortest .ensures) (none (c .before .before .before .before .before .before .before .before .before .before .before)) _ _ (rows .0) (rows .1)
+    plan-done (s .n) (s .table .now) (s .values .now) (s .cares .now) _ _ _ (c .before .before .before .before .before .before .before .before .before .before .shortest .ensures) (none (c .before .before .before .before .before .before .before .before .before .before .before)) _ _ rows
 
 pub plan-spec : {M : Type 1} → statement M
 plan-spec = tie.close (tie.spec plan-refusal-requires returns shortest-requires write-rows-requires same-length same-length-2 returns-2)

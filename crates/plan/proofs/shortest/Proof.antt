@@ -4,8 +4,8 @@ use Prim.Native.Nat.{ℕ, _*_, _≤_}
 use native.Mathlib.Omega.{arith}
 use borrow.Author.Needs.{needs}
 use Rattle.cube.proofs.Calls.{codes-most}
-use Rattle.plan.specs.Plan.{rowWeight}
-use Rattle.plan.proofs.Choice.{rows-most, picked-most, weight-most, chosen}
+use Rattle.plan.specs.Steps.{rowWeight}
+use Rattle.plan.proofs.Choice.{picked-count, rows-most, picked-most, weight-most, chosen}
 use Rattle.plan.proofs.shortest.Statement.{statement}
 use Rattle.plan.proofs.shortest.Tie as tie
 
@@ -25,32 +25,47 @@ slice-aggregate-list-picked c = search needs
 
 list-picked-requires : tie.Need-list-picked-requires
 list-picked-requires c κs =
-    let s = c .before .before .before .before .before .before .before .before .before .before .before .before .before .before .before in
-    let chart = c .before .before .before .before .before .before .before .before .before .before .before .before .before .build .ensures in
-    let most = rows-most (s .args .n) (s .args .table .now) (s .pre .0) _ chart in
-    (omega (arith, most), chart .places .0, picked-most (s .args .n) (s .args .table .now) (s .pre .0) (s .pre .1) _ chart _ (c .before .before .before .before .before .before .before .row-columns .ensures) _ (c .before .before .before .before .before .before .lightest .ensures))
+    let found = c .before .before .before .before .before .before in
+    let wanted = found .before in
+    let built = wanted .before .before .before .before .before .before in
+    let s = built .before .before in
+    let chart = built .build .ensures in
+    record {
+      few = omega (arith, rows-most (s .args .n) (s .args .table .now) (s .pre .0) _ chart);
+      cube = chart .places .0;
+      room = picked-most (s .args .n) (s .args .table .now) (s .pre .0) (s .pre .1) _ chart _ (wanted .row-columns .ensures) _ (found .lightest .ensures);
+    }
 
 mul-t20 : tie.Need-mul-t20
 mul-t20 c =
-    let s = c .before .before .before .before .before .before .before .before .before .before .before .before .before .before .before .before .before in
+    let found = c .before .before .before .before .before .before .before .before in
+    let wanted = found .before in
+    let built = wanted .before .before .before .before .before .before in
+    let s = built .before .before in
+    let chart = built .build .result in
     omega (
       arith,
-      c .before .list-picked .ensures .0,
-      picked-most (s .args .n) (s .args .table .now) (s .pre .0) (s .pre .1) _ (c .before .before .before .before .before .before .before .before .before .before .before .before .before .before .before .build .ensures) _ (c .before .before .before .before .before .before .before .before .before .row-columns .ensures) _ (c .before .before .before .before .before .before .before .before .lightest .ensures),
+      picked-count (found .lightest .result .picked) (chart .cubes) (chart .rows) (c .before .list-picked .ensures),
+      picked-most (s .args .n) (s .args .table .now) (s .pre .0) (s .pre .1) _ (built .build .ensures) _ (wanted .row-columns .ensures) _ (found .lightest .ensures),
     )
 
 sub-t21 : tie.Need-sub-t21
 sub-t21 c =
-    let s = c .before .before .before .before .before .before .before .before .before .before .before .before .before .before .before .before .before in
-    subst⁻¹ (λ (k : ℕ). rowWeight * k ≤ c .before .before .before .before .before .before .before .before .lightest .result .weight) (c .before .list-picked .ensures .0)
-    (weight-most (s .args .n) (s .args .table .now) (s .pre .0) (s .pre .1) _ (c .before .before .before .before .before .before .before .before .before .before .before .before .before .before .before .build .ensures) _ (c .before .before .before .before .before .before .before .before .before .row-columns .ensures) _ (c .before .before .before .before .before .before .before .before .lightest .ensures))
+    let found = c .before .before .before .before .before .before .before .before in
+    let wanted = found .before in
+    let built = wanted .before .before .before .before .before .before in
+    let s = built .before .before in
+    subst⁻¹ (λ (k : ℕ). rowWeight * k ≤ found .lightest .result .weight) (picked-count (found .lightest .result .picked) (built .build .result .cubes) (built .build .result .rows) (c .before .list-picked .ensures))
+    (weight-most (s .args .n) (s .args .table .now) (s .pre .0) (s .pre .1) _ (built .build .ensures) _ (wanted .row-columns .ensures) _ (found .lightest .ensures))
 
 returns : tie.Need-returns
 returns c =
-    let s = c .before .before .before .before .before .before .before .before .before .before .before .before .before .before .before .before .before in
-    let picked = c .before .list-picked in
-    chosen (s .args .n) (s .args .table .now) (s .pre .0) (s .pre .1) _ (c .before .before .before .before .before .before .before .before .before .before .before .before .before .before .before .build .ensures) _ (c .before .before .before .before .before .before .before .before .before .row-columns .ensures) _
-    (c .before .before .before .before .before .before .before .before .lightest .ensures) _ _ _ refl (picked .ensures .0) (picked .ensures .1)
+    let found = c .before .before .before .before .before .before .before .before in
+    let wanted = found .before in
+    let built = wanted .before .before .before .before .before .before in
+    let s = built .before .before in
+    chosen (s .args .n) (s .args .table .now) (s .pre .0) (s .pre .1) _ (built .build .ensures) _ (wanted .row-columns .ensures) _ (found .lightest .ensures) _ _ _ refl
+    (c .before .list-picked .ensures)
 
 pub shortest-spec : {M : Type 1} → statement M
 shortest-spec =
