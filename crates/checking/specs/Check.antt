@@ -1,14 +1,11 @@
 -- Check: "table and two arrays. Answers right; missed with a code (wanted, unmatched); or stray with a code (barred, matched); the lowest wrong
--- code is named. Refuses 1, 2, 3, 5, 6, 7." Then what its steps leave. Assumes nothing.
-use mathlib.Core.Path.{_≡_}
-use Prim.Native.Nat.{ℕ, _^_, _<_, _≤_}
+-- code is named. Refuses 1, 2, 3, 5, 6, 7." Assumes nothing.
+use Prim.Native.Nat.{ℕ, _^_}
 use mathlib.Core.Bool.{Bool, cond, not, _&&_, _||_}
 use mathlib.Core.List.{List, [], _∷_, _++_}
-use lib.Dec.{T}
-use lib.ListN.{length}
 use Rattle.numbers.specs.Below.{those}
 use Rattle.cube.specs.Words.{onSet, offSet, Cover, coverMatches, rowsOf}
-use Rattle.cube.specs.Calls.{widest, firstOf, tableConditions, listConditions, Answer, refuses, gives, answered}
+use Rattle.cube.specs.Calls.{firstOf, tableConditions, listConditions, Answer, refuses, gives, answered}
 use Rattle.checking.specs.declared.Checked.{Checked}
 use Rattle.checking.specs.declared.Checked.the-variants.{Right, Missed, Stray, Refused}
 
@@ -53,17 +50,3 @@ checkAnswer Right = gives right
 checkAnswer (Missed c) = gives (missed c)
 checkAnswer (Stray c) = gives (stray c)
 checkAnswer (Refused k) = refuses k
-
--- ---- the steps
-
--- a table of n variables, and a list in two arrays of one length
-pub record Comparable (n : ℕ) (t vs ws : List ℕ) : Type 0 where
-  pub width : n ≤ widest
-  pub cells : length t ≡ 2 ^ n
-  pub equal : length vs ≡ length ws
-
--- c is the lowest wrong code, or 2^n where none is wrong
-pub record LowestWrong (n : ℕ) (t : List ℕ) (rs : Cover) (c : ℕ) : Type 0 where
-  pub inside : c ≤ 2 ^ n
-  pub wrong : c < 2 ^ n → T (isWrong t rs c)
-  pub none-lower : (k : ℕ) → k < c → T (isWrong t rs k) → ⊥

@@ -1,3 +1,4 @@
--- What Check answers, and what each answer says.
+-- What Check answers, what each answer says, and what its steps leave.
 pub mod Check
 pub mod Theorems
+pub mod Steps

@@ -8,7 +8,8 @@ ghost use Prim.Native.Nat.{_<_};
 ghost use lib.ListN.{length};
 ghost use Rattle.cube.specs.Words.{rowsOf};
 ghost use Rattle.cube.specs.Calls.{gives};
-ghost use Rattle.checking.specs.Check.{isWrong, verdict, checkOf, checkAnswer, Comparable, LowestWrong};
+ghost use Rattle.checking.specs.Check.{isWrong, verdict, checkOf, checkAnswer};
+ghost use Rattle.checking.specs.Steps.{Comparable, LowestWrong};
 
 // Right, the lowest wrong code, or the number of the refusal.
 pub enum Checked {

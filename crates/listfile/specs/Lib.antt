@@ -1,3 +1,4 @@
--- What Write refuses and writes, and the file by positions.
+-- What Write refuses and writes, the file by positions, and what the steps ask for.
 pub mod Write
 pub mod Theorems
+pub mod Steps

@@ -1,11 +1,10 @@
 -- Write: "the list file from width and two arrays. Byte 0 width, byte 1 row count, then all values, then all cares. [..] The answer is 2 + 2 × rows.
 -- Refuses 1, 5, 6, 7, then 4 below that length." Assumes nothing.
-use mathlib.Core.Path.{_≡_}
-use Prim.Native.Nat.{ℕ, _+_, _*_, _≤_}
+use Prim.Native.Nat.{ℕ, _+_, _*_}
 use mathlib.Core.List.{List, [], _∷_, _++_}
 use lib.ListN.{length}
 use Rattle.cube.specs.Words.{rowsOf}
-use Rattle.cube.specs.Calls.{widest, badWidth, short, mostRows, when, firstOf, listConditions}
+use Rattle.cube.specs.Calls.{badWidth, short, when, firstOf, listConditions}
 
 -- "Byte 0 width, byte 1 row count"
 abbrev pub header : ℕ → ℕ → List ℕ
@@ -23,16 +22,7 @@ fileOf n vs ws = header n (length vs) ++ (vs ++ ws)
 abbrev pub fileLength : ℕ → ℕ
 fileLength rows = headerLength + 2 * rows
 
--- the number that Write refuses with, or 0
+-- the number that Write refuses with, or 0, for a buffer of this many bytes
 abbrev pub writeRefuses : ℕ → List ℕ → List ℕ → ℕ → ℕ
 writeRefuses n vs ws places =
     firstOf (when (badWidth n) 1 ∷ (listConditions n vs ws ++ (when (short places (fileLength (length (rowsOf vs ws)))) 4 ∷ [])))
-
--- ---- the steps
-
--- a width and a list that are not refused, and a buffer with room for their file
-pub record Writable (n : ℕ) (vs ws out : List ℕ) : Type 0 where
-  pub width : n ≤ widest
-  pub equal : length vs ≡ length ws
-  pub few : length vs ≤ mostRows
-  pub room : fileLength (length vs) ≤ length out

@@ -8,12 +8,13 @@ ghost use Prim.Native.Nat.{_≤_};
 ghost use lib.ListN.{length};
 ghost use lib.Seq.{sets};
 ghost use Rattle.cube.specs.Calls.{mostRows, Listed};
-ghost use Rattle.listfile.specs.Write.{header, headerLength, fileOf, fileLength, writeRefuses, Writable};
+ghost use Rattle.listfile.specs.Write.{header, headerLength, fileOf, fileLength, writeRefuses};
+ghost use Rattle.listfile.specs.Steps.{Writable};
 
 // The bytes before the values.
 const HEADER: usize = 2;
 
-// The length of the file of so many rows.
+// The length of the file of this many rows.
 fn file_length(rows: usize) -> usize
     requires { ⌜ rows ≤ mostRows ⌝ }
     ensures { λ r. ⌜ r ≡ fileLength rows ⌝ }

@@ -14,7 +14,7 @@ use Rattle.numbers.proofs.Below.{run-length}
 use Rattle.numbers.proofs.Lent.{sets-append, sets-front}
 use Rattle.text.specs.Characters.{bytes, lineFeed}
 use Rattle.text.specs.Output.{decimal, characterOfVariable, rowLine, listLines, totals, refused, mostDigits, mostOutput}
-use Rattle.cube.specs.Steps.{Puts}
+use Rattle.numbers.specs.Lent.{Puts}
 use Rattle.text.specs.Printing.{Prints}
 use Rattle.text.proofs.Decimals.{decimal-length}
 

@@ -6,7 +6,7 @@ ghost use lib.ListN.{length};
 ghost use Rattle.cube.specs.Words.{firstRows};
 ghost use Rattle.cube.specs.Theorems.{Variable};
 ghost use Rattle.cube.specs.Calls.{widest};
-ghost use Rattle.cube.specs.Steps.{Puts};
+ghost use Rattle.numbers.specs.Lent.{Puts};
 ghost use Rattle.text.specs.Characters.{lineFeed, digitCharacter};
 ghost use Rattle.text.specs.Output.{characterOfVariable, rowLine, listLines, listText, refused, mostOutput};
 ghost use Rattle.text.specs.Output.{decimal as inDecimal, totals as totalLine};

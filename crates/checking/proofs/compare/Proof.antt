@@ -12,7 +12,8 @@ use Rattle.cube.specs.Calls.{gives}
 use Rattle.numbers.proofs.Bools.{and-l, or-e, is-true, is-false}
 use Rattle.numbers.proofs.Below.{Lowest}
 use Rattle.cube.proofs.Calls.{codes-most}
-use Rattle.checking.specs.Check.{right, missed, stray, isMissed, isStray, isWrong, verdict, LowestWrong}
+use Rattle.checking.specs.Check.{right, missed, stray, isMissed, isStray, isWrong, verdict}
+use Rattle.checking.specs.Steps.{LowestWrong}
 use Rattle.checking.proofs.Verdicts.{verdict-right, verdict-named}
 use Rattle.checking.proofs.compare.Statement.{statement}
 use Rattle.checking.proofs.compare.Tie as tie

@@ -9,7 +9,8 @@ use lib.Seq.{sets, length-sets}
 use borrow.Author.Needs.{needs}
 use borrow.Rule.Slice.PartMut.{midOf, putMid}
 use Rattle.numbers.proofs.Lent.{sets-append, put-copied}
-use Rattle.listfile.specs.Write.{header, headerLength, fileOf, Writable}
+use Rattle.listfile.specs.Write.{header, headerLength, fileOf}
+use Rattle.listfile.specs.Steps.{Writable}
 use Rattle.listfile.proofs.put_file.Statement.{statement}
 use Rattle.listfile.proofs.put_file.Tie as tie
 

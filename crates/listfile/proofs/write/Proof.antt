@@ -3,6 +3,7 @@ use mathlib.Core.Path.{_≡_, refl, sym, ap, _∙_, subst}
 use mathlib.Core.Bool.{true, false}
 use mathlib.Core.List.{List, [], _∷_, _++_}
 use Prim.Native.Nat.{ℕ, zero, suc, _<_, _≤_}
+use native.Mathlib.Nat.{zero-add}
 use lib.ListN.{length}
 use lib.Seq.{sets}
 use borrow.Author.Needs.{needs}
@@ -13,7 +14,8 @@ use Rattle.cube.specs.declared.Counted.{Counted}
 use Rattle.cube.specs.declared.Counted.the-variants.{Count, Refused}
 use Rattle.cube.proofs.Calls.{width-to, first-holds, first-passes, conditions-refuse, conditions-pass, AcceptedList, accepted-list, listed-refused, listed-done}
 use Rattle.cube.proofs.Lists.{rows-length}
-use Rattle.listfile.specs.Write.{fileOf, fileLength, writeRefuses, Writable}
+use Rattle.listfile.specs.Write.{fileOf, fileLength, writeRefuses}
+use Rattle.listfile.specs.Steps.{Writable}
 use Rattle.listfile.proofs.Theorems.{file-length}
 use Rattle.listfile.proofs.write.Statement.{statement}
 use Rattle.listfile.proofs.write.Tie as tie
@@ -66,8 +68,8 @@ module _ (n : ℕ) (vs ws old : List ℕ) where
           done new new-is =
               let long : m ≡ length (fileOf n vs ws) = m-is ∙ sym (file-length n vs ws (list .equal)) in
               listed-done
-              (left ∙ first-passes (short (length old) (fileLength (length (rowsOf vs ws)))) 4 [] (le-ltb _ _ (subst (λ (i : ℕ). i ≤ length old) needed h))) long
-              new-is (subst (λ (i : ℕ). i ≤ length old) long h)
+              (left ∙ first-passes (short (length old) (fileLength (length (rowsOf vs ws)))) 4 [] (le-ltb _ _ (subst (λ (i : ℕ). i ≤ length old) needed h)))
+              (record { behind = long ∙ sym (zero-add (length (fileOf n vs ws))); places = new-is }) (subst (λ (i : ℕ). i ≤ length old) long h)
 
 good-at : (c : tie.Else1) → badWidth (c .before .before .before .before .before .args .n) ≡ false
 good-at c = sym (c .before .bad-width .ensures) ∙ c .if1 .left

@@ -9,7 +9,7 @@ use borrow.Fn.Kinds.{In}
 use borrow.Fn.PlainCycle.{Measures, is, falls, and}
 use Rattle.text.specs.Characters.{digitCharacter}
 use Rattle.text.specs.Output.{decimal}
-use Rattle.cube.specs.Steps.{Puts}
+use Rattle.numbers.specs.Lent.{Puts}
 use Rattle.text.proofs.Decimals.{decimals}
 use Rattle.text.proofs.Lines.{puts-append, puts-long}
 use Rattle.text.proofs.output.decimal.Reads as reads

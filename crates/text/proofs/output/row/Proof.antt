@@ -10,7 +10,7 @@ use Rattle.numbers.specs.Below.{run}
 use Rattle.cube.specs.Calls.{widest}
 use Rattle.numbers.proofs.Below.{run-more}
 use Rattle.text.specs.Output.{characterOfVariable}
-use Rattle.cube.specs.Steps.{Puts}
+use Rattle.numbers.specs.Lent.{Puts}
 use Rattle.text.proofs.Lines.{puts-start, puts-turn, puts-append, puts-long}
 use Rattle.text.proofs.output.row.Statement.{statement}
 use Rattle.text.proofs.output.row.Tie as tie

@@ -10,7 +10,7 @@ use Rattle.cube.specs.Words.{rowsOf, firstRows}
 use Rattle.cube.specs.Calls.{widest}
 use Rattle.cube.proofs.Lists.{rows-more, rows-first}
 use Rattle.text.specs.Output.{rowLine, listLines}
-use Rattle.cube.specs.Steps.{Puts}
+use Rattle.numbers.specs.Lent.{Puts}
 use Rattle.text.proofs.Lines.{puts-none, puts-append, puts-long, lines-append, lines-length}
 use Rattle.text.proofs.output.rows.Statement.{statement}
 use Rattle.text.proofs.output.rows.Tie as tie

@@ -7,7 +7,7 @@ use lib.ListN.{length, take}
 use lib.Seq.{take-all}
 use borrow.Author.Needs.{needs}
 use Rattle.numbers.proofs.Fronts.{take-more}
-use Rattle.cube.specs.Steps.{Puts}
+use Rattle.numbers.specs.Lent.{Puts}
 use Rattle.text.proofs.Lines.{puts-start, puts-turn, puts-long}
 use Rattle.text.proofs.output.word.Statement.{statement}
 use Rattle.text.proofs.output.word.Tie as tie
