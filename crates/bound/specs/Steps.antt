@@ -3,20 +3,16 @@
 use mathlib.Core.Path.{_≡_}
 use mathlib.Core.List.{List}
 use mathlib.Core.Bool.{Bool, _&&_}
-use Prim.Native.Nat.{ℕ, _*_, _^_, _≤_, _<_}
+use Prim.Native.Nat.{ℕ, _*_, _≤_, _<_}
 use lib.ListN.{getD}
 use Rattle.covering.specs.Sum.{ifSet, sum}
 use Rattle.matrix.specs.Sets.{ColumnSet, RowSet, columnLimit, has, Member}
-use Rattle.matrix.specs.Matrix.{rowCount, covered, weightOf, Low}
+use Rattle.matrix.specs.Matrix.{rowCount, covered, weightOf, Low, weightLimit}
 use Rattle.bound.specs.Bound.{Limited}
 
 -- ---- sizes
 
--- weights and prices are below this number
-abbrev pub weightLimit : ℕ
-weightLimit = 2 ^ 32
-
--- and so no set of columns is worth more than this
+-- prices are below `weightLimit` as weights are, and so no set of columns is worth more than this
 abbrev pub worthLimit : ℕ
 worthLimit = columnLimit * weightLimit
 

@@ -4,9 +4,9 @@ ghost use mathlib.Core.Path.{_≡_};
 ghost use mathlib.Core.Bool.{true};
 ghost use Prim.Native.Nat.{_≤_, _<_};
 ghost use Rattle.matrix.specs.Sets.{has};
-ghost use Rattle.matrix.specs.Matrix.{rowCount, Sizes};
+ghost use Rattle.matrix.specs.Matrix.{rowCount, Sizes, weightLimit};
 ghost use Rattle.bound.specs.Bound.{Limited, Kept, Bounds};
-ghost use Rattle.bound.specs.Steps.{weightLimit, worthLimit, Valued, rowColumns, Pays, Feasible, Ranges, Rounded, Certificate};
+ghost use Rattle.bound.specs.Steps.{worthLimit, Valued, rowColumns, Pays, Feasible, Ranges, Rounded, Certificate};
 use matrix::columns;
 use matrix::rows;
 

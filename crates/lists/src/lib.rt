@@ -18,7 +18,7 @@ pub fn unequal_lengths(values: &[u8], cares: &[u8]) -> bool
     values.len() != cares.len()
 }
 
-// Whether so many rows are more than a list may have.
+// Whether this many rows are more than a list may have.
 pub fn too_many_rows(rows: usize) -> bool
     ensures { λ r. ⌜ r ≡ tooManyRows rows ⌝ }
 {

@@ -1,7 +1,7 @@
 -- The covering matrix on two slices: the columns of each row, and a weight for each row. Definitions only. Assumes nothing.
 use mathlib.Core.Path.{_≡_}
 use mathlib.Core.List.{List}
-use Prim.Native.Nat.{ℕ, _≤_}
+use Prim.Native.Nat.{ℕ, _^_, _≤_}
 use lib.ListN.{length, getD}
 use Rattle.covering.specs.Weighted.{AtLeast}
 use Rattle.matrix.specs.Sets.{ColumnSet, RowSet, rowLimit, In, Member}
@@ -21,6 +21,10 @@ covers words i c = In (covered words i) c
 -- the weight of the row i
 abbrev pub weightOf : List ℕ → ℕ → ℕ
 weightOf weights i = getD weights i 0
+
+-- a weight is below this number
+abbrev pub weightLimit : ℕ
+weightLimit = 2 ^ 32
 
 -- a weight for each row, and no more rows than a set of rows holds
 pub record Sizes (words weights : List ℕ) : Type 0 where

@@ -3,9 +3,9 @@
 //
 // A row with the columns 0 and 3, asked for its columns: `columns::next(9, 0)` is 0, `columns::next(9, 1)` is 3 and `columns::next(9, 4)` is `columns::LIMIT`, the end.
 ghost use mathlib.Core.Path.{_≡_};
-ghost use Prim.Native.Nat.{_^_, _<_, min, max};
+ghost use Prim.Native.Nat.{_<_, min, max};
 ghost use lib.ListN.{length};
-ghost use Rattle.matrix.specs.Matrix.{rowCount, covered as coveredBy, weightOf};
+ghost use Rattle.matrix.specs.Matrix.{rowCount, covered as coveredBy, weightOf, weightLimit};
 
 pub mod columns;
 pub mod rows;
@@ -29,7 +29,7 @@ pub fn covered(words: &[u64], i: usize) -> columns::Set
 // The weight of the row i.
 pub fn weight(weights: &[u32], i: usize) -> u64
     requires { ⌜ i < length (now weights) ⌝ }
-    ensures { λ r. ⌜ (r ≡ weightOf (now (weights .entry)) i) × (r < 2 ^ 32) ⌝ }
+    ensures { λ r. ⌜ (r ≡ weightOf (now (weights .entry)) i) × (r < weightLimit) ⌝ }
 {
     weights[i] as u64
 }

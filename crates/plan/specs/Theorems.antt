@@ -13,7 +13,7 @@ use Rattle.plan.specs.declared.Planned.the-variants.{Rows}
 
 -- "They hold a list": the arrays before and after a call, and the counts that it returned
 pub record Held (n : ℕ) (t values cares values′ cares′ : List ℕ) (rows bits : ℕ) : Type 0 where
-  -- each array has so many places
+  -- each array has this many places
   pub enough-values : rows ≤ length values′
   pub enough-cares : rows ≤ length cares′
   -- "a list of rows of the table's width that matches every wanted mark and no barred one. Every other list [..] has at least as many rows."

@@ -1,11 +1,11 @@
 -- What the reductions of a covering problem on slices promise: a lightest cover of what is left, with the rows taken, is a lightest cover of the whole.
 -- Definitions only. Assumes nothing.
 use mathlib.Core.List.{List}
-use Prim.Native.Nat.{ℕ, _+_, _*_, _^_, _≤_}
+use Prim.Native.Nat.{ℕ, _+_, _*_, _≤_}
 use Rattle.covering.specs.Weighted.{setSize}
 use Rattle.covering.specs.Search.{Reduced, none}
 use Rattle.matrix.specs.Sets.{ColumnSet, RowSet, rowLimit, In, member, Member}
-use Rattle.matrix.specs.Matrix.{covers, weightOf}
+use Rattle.matrix.specs.Matrix.{covers, weightOf, weightLimit}
 use Rattle.reduction.specs.declared.Remaining.{Remaining}
 
 -- the rows live and the columns u come down to live′ and u′, and nothing is taken
@@ -16,10 +16,6 @@ Keeps words weights live u live′ u′ = Reduced (covers words) (weightOf weigh
 abbrev pub Reduces : List ℕ → List ℕ → RowSet → ColumnSet → Remaining → Type 0
 Reduces words weights live u s =
     Reduced (covers words) (weightOf weights) rowLimit (Member live) (In u) (Member (s .live)) (In (s .undecided)) (member (s .taken)) (s .cost)
-
--- a weight is below this number
-abbrev pub weightLimit : ℕ
-weightLimit = 2 ^ 32
 
 -- what the rows taken weigh, and `weightLimit` for each live row, are together at most `rowLimit * weightLimit`
 abbrev pub CostBounded : Remaining → Type 0

@@ -15,13 +15,13 @@ use Rattle.covering.proofs.Bounds.{nothing, smaller, uncoverable}
 use Rattle.covering.proofs.Choices.{answer-nothing, answer-none, answer-reduced, answer-fewer, answer-without, minimum}
 use Rattle.covering.proofs.Reductions.{cover-same, cover-with}
 use Rattle.matrix.specs.Sets.{ColumnSet, RowSet, rowLimit, has, In, member, Member}
-use Rattle.matrix.specs.Matrix.{rowCount, covered, covers, weightOf, Low}
+use Rattle.matrix.specs.Matrix.{rowCount, covered, covers, weightOf, Low, weightLimit}
 use Rattle.matrix.proofs.Without.{left-in, left-out, left-rest}
 use Rattle.reduction.specs.Reduction.{ReducedTo}
 use Rattle.reduction.specs.declared.Remaining.{Remaining}
 use Rattle.bound.specs.Bound.{Bounds}
 use Rattle.search.specs.Search.{Coverable, MinimumCover}
-use Rattle.search.specs.Steps.{weightLimit, Found, Branch, BranchesBelow, Taking, WithTaken, Lighter, Incumbent}
+use Rattle.search.specs.Steps.{Found, Branch, BranchesBelow, Taking, WithTaken, Lighter, Incumbent}
 use Rattle.search.specs.declared.Solution.{Solution}
 use Rattle.search.specs.declared.BranchPoint.{BranchPoint}
 

@@ -10,12 +10,12 @@ use Rattle.covering.specs.Search.{_∪_, none}
 use Rattle.numbers.proofs.Flags.{kept-or}
 use Rattle.covering.proofs.Reductions.{cover-same, cover-nothing, cover-with}
 use Rattle.matrix.specs.Sets.{ColumnSet, RowSet, rowLimit, has, In, member, Member}
-use Rattle.matrix.specs.Matrix.{covered, covers, weightOf}
+use Rattle.matrix.specs.Matrix.{covered, covers, weightOf, weightLimit}
 use Rattle.matrix.proofs.Without.{left-in, left-out, size-most}
 use Rattle.reduction.specs.Reduction.{CostBounded}
 use Rattle.reduction.specs.Steps.{RowTaken}
 use Rattle.reduction.specs.declared.Remaining.{Remaining}
-use Rattle.search.specs.Steps.{weightLimit, Incumbent}
+use Rattle.search.specs.Steps.{Incumbent}
 
 -- the rows taken in s, of the rows live and for the columns u
 pub record Partial (words weights : List ℕ) (live : RowSet) (u : ColumnSet) (s : Remaining) : Type 0 where

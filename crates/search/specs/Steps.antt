@@ -17,17 +17,9 @@ use Rattle.search.specs.declared.BranchPoint.{BranchPoint}
 
 -- ---- numbers
 
--- a weight is below this number
-abbrev pub weightLimit : ℕ
-weightLimit = 2 ^ 32
-
 -- all rows together weigh less than this number: the weight where the greedy cover is none
 abbrev pub noCover : ℕ
 noCover = 2 ^ 42
-
--- the limit of a search is below this number, so that no sum of weights wraps
-abbrev pub costLimit : ℕ
-costLimit = 2 ^ 48
 
 -- ---- answers
 

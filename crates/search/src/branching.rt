@@ -4,9 +4,9 @@ ghost use mathlib.Core.Path.{_≡_};
 ghost use mathlib.Core.Bool.{false};
 ghost use mathlib.Core.Logic.{_⊎_};
 ghost use Prim.Native.Nat.{ℕ, _≤_, _<_};
-ghost use Rattle.matrix.specs.Matrix.{rowCount, Sizes};
+ghost use Rattle.matrix.specs.Matrix.{rowCount, Sizes, weightLimit};
 ghost use Rattle.matrix.specs.Sets.{columnLimit, rowLimit, In};
-ghost use Rattle.search.specs.Steps.{weightLimit, Branch, ColumnOf, Preferred, RowFor};
+ghost use Rattle.search.specs.Steps.{Branch, ColumnOf, Preferred, RowFor};
 use matrix::columns;
 use matrix::rows;
 

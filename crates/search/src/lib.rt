@@ -4,10 +4,11 @@
 // Rows {0, 1}, {1, 2} and {0, 2}, each of weight 5, for the columns 0, 1 and 2: `minimum_cover(&[3, 6, 5], &[5, 5, 5], 7)` picks two of them, of weight 10.
 ghost use mathlib.Core.Path.{_≡_};
 ghost use Prim.Native.Nat.{ℕ, _-_, _<_};
-ghost use Rattle.matrix.specs.Matrix.{rowCount, Sizes};
+ghost use Rattle.matrix.specs.Matrix.{rowCount, Sizes, weightLimit};
 ghost use Rattle.matrix.specs.Sets.{rowLimit, In, Member};
 ghost use Rattle.search.specs.Search.{Coverable, MinimumCover};
-ghost use Rattle.search.specs.Steps.{costLimit, weightLimit, BranchesBelow, Found, Lighter, Taking, WithTaken};
+ghost use Rattle.bound.specs.Bound.{costLimit};
+ghost use Rattle.search.specs.Steps.{BranchesBelow, Found, Lighter, Taking, WithTaken};
 use matrix::columns;
 use matrix::rows;
 use reduction::Remaining;

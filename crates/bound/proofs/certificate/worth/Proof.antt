@@ -6,7 +6,8 @@ use native.Mathlib.Omega.{arith}
 use Rattle.covering.specs.Sum.{ifSet, sum}
 use Rattle.matrix.specs.Sets.{columnLimit, has, In}
 use Rattle.matrix.proofs.Walks.{sum-first, sum-turn}
-use Rattle.bound.specs.Steps.{weightLimit, priceOf}
+use Rattle.matrix.specs.Matrix.{weightLimit}
+use Rattle.bound.specs.Steps.{priceOf}
 use Rattle.bound.proofs.certificate.worth.Statement.{statement}
 use Rattle.bound.proofs.certificate.worth.Tie as tie
 
