@@ -6,6 +6,7 @@ use mathlib.Core.List.{List}
 use Prim.Native.Nat.{ℕ, _^_, _<_, _≤_}
 use lib.ListN.{length, getD}
 use Rattle.cube.specs.Words.{onSet, rowMatches, cubeLiterals, primesOf}
+use Rattle.cube.specs.Calls.{widest}
 use Rattle.matrix.specs.Sets.{ColumnSet, columnLimit}
 use Rattle.chart_arrays.specs.Columns.{columnsOf}
 use Rattle.chart_arrays.specs.declared.Arrays.{Arrays}
@@ -35,3 +36,11 @@ pub record IsChart (n : ℕ) (t : List ℕ) (a : Arrays) : Type 0 where
 -- the first count places hold cubes of n digits
 abbrev pub Cubes : ℕ → List ℕ → ℕ → Type 0
 Cubes n cubes count = (i : ℕ) → i < count → getD cubes i 0 < 3 ^ n
+
+-- a table of n variables, and cubes with a place for each of the first count
+pub record Chartable (n : ℕ) (t cubes : List ℕ) (count places : ℕ) : Type 0 where
+  pub width : n ≤ widest
+  pub cells : length t ≡ 2 ^ n
+  pub cubes-long : count ≤ length cubes
+  pub enough : count ≤ places
+  pub below : Cubes n cubes count

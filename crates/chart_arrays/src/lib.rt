@@ -11,7 +11,7 @@ ghost use Rattle.cube.specs.Calls.{widest};
 ghost use Rattle.cube.specs.Words.{tested, digit, cubeLiterals};
 ghost use Rattle.matrix.specs.Sets.{columnLimit};
 ghost use Rattle.chart_arrays.specs.Columns.{wordOf, columnsOf};
-ghost use Rattle.chart_arrays.specs.Steps.{rowColumn, CodeNext, IsChart, Cubes};
+ghost use Rattle.chart_arrays.specs.Steps.{rowColumn, CodeNext, IsChart, Chartable};
 
 // The word with bit c, if code c is wanted and the row matches it.
 fn with_code(table: &[u8], value: usize, care: usize, c: usize, word: columns::Set) -> columns::Set
@@ -80,7 +80,7 @@ fn literals(n: usize, q: usize) -> u8
 
 // The words of the first cubes.
 fn fill_words(n: usize, table: &[u8], cubes: &[u16], count: usize, words: &mut [u64])
-    requires { ⌜ (n ≤ widest) × (length (now table) ≡ 2 ^ n) × (count ≤ length (now cubes)) × (count ≤ length (now words)) × Cubes n (now cubes) count ⌝ }
+    requires { ⌜ Chartable n (now table) (now cubes) count (length (now words)) ⌝ }
     ensures { λ _. ⌜ ((i : ℕ) → i < count → getD (now (words .exit)) i 0 ≡ columnsOf n (now (table .entry)) (getD (now (cubes .entry)) i 0)) ⌝ }
 {
     let mut i = 0;

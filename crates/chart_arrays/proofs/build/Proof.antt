@@ -49,13 +49,14 @@ fill-words-requires c κs =
     let l = c .before .before .before .list-primes in
     let n = s .args .n in
     let t = s .args .table .now in
-    let most = few n t _ (l .last .1 .1 .0) (l .result) (s .pre .0) refl (l .ensures) in (
-      s .pre .0,
-      s .pre .1,
-      subst⁻¹ (λ (i : ℕ). l .result ≤ i) (l .kept .1 .1 .0) most,
-      most,
-      are-cubes n t _ (l .last .1 .1 .0) (l .result) (s .pre .0) refl (l .ensures),
-    )
+    let most = few n t _ (l .last .1 .1 .0) (l .result) (s .pre .0) refl (l .ensures) in
+    record {
+      width = s .pre .0;
+      cells = s .pre .1;
+      cubes-long = subst⁻¹ (λ (i : ℕ). l .result ≤ i) (l .kept .1 .1 .0) most;
+      enough = most;
+      below = are-cubes n t _ (l .last .1 .1 .0) (l .result) (s .pre .0) refl (l .ensures);
+    }
 
 slice-aggregate-fill-literals : tie.Need-slice-aggregate-fill-literals
 slice-aggregate-fill-literals c = search needs

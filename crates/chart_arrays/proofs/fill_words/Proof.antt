@@ -1,28 +1,25 @@
 -- `chart_arrays::fill_words` meets its contract: the words before place i are filled. Assumes nothing.
 use mathlib.Core.Path.{_≡_, refl}
-use Prim.Native.Nat.{ℕ, _-_, _^_, _<_, _≤_}
+use Prim.Native.Nat.{ℕ, _-_, _<_, _≤_}
 use native.Mathlib.Omega.{arith}
 use lib.ListN.{length, length-set, getD}
 use borrow.Author.Needs.{needs}
-use Rattle.cube.specs.Calls.{widest}
 use Rattle.numbers.proofs.Lent.{fill-more}
 use Rattle.chart_arrays.specs.Columns.{columnsOf}
-use Rattle.chart_arrays.specs.Steps.{Cubes}
+use Rattle.chart_arrays.specs.Steps.{Chartable}
 use Rattle.chart_arrays.proofs.fill_words.Statement.{statement}
 use Rattle.chart_arrays.proofs.fill_words.Tie as tie
 
 abbrev Inv-loop : tie.InvT-loop
 Inv-loop n table cubes count words₀ i₀ words i =
-    ((n ≤ widest) × (length table ≡ 2 ^ n) × (count ≤ length cubes) × Cubes n cubes count) × (count ≤ length words) × (length words ≡ length words₀) × (i ≤ count)
+    Chartable n table cubes count (length words) × (length words ≡ length words₀) × (i ≤ count)
     × ((k : ℕ) → k < i → getD words k 0 ≡ columnsOf n table (getD cubes k 0))
 
 abbrev μ-loop : tie.MeasureT-loop
 μ-loop n table cubes count words₀ i₀ words i = count - i
 
 loop-holds : tie.Need-loop-holds Inv-loop μ-loop
-loop-holds c =
-    let p = c .before .before .before .pre in
-    ((p .0, p .1, p .2, p .4), p .3, refl, search needs, λ k l. absurd (omega arith))
+loop-holds c = (c .before .before .before .pre, refl, search needs, λ k l. absurd (omega arith))
 
 mul-cube-columns : tie.Need-mul-cube-columns Inv-loop μ-loop
 mul-cube-columns c = omega (arith, c .before .before .before .before .before .good)
@@ -34,7 +31,7 @@ cast-cube-columns : tie.Need-cast-cube-columns Inv-loop μ-loop
 cast-cube-columns c = omega (arith, c .shared-slice-known3 .given (c .before .before .loop .i))
 
 cube-columns-requires : tie.Need-cube-columns-requires Inv-loop μ-loop
-cube-columns-requires c κs = let i = c .before .before .loop .inv .0 in (i .0, i .1, i .3 (c .before .before .loop .i) (c .before .loop-test .taken))
+cube-columns-requires c κs = let i = c .before .before .loop .inv .0 in (i .width, i .cells, i .below (c .before .before .loop .i) (c .before .loop-test .taken))
 
 mul-words : tie.Need-mul-words Inv-loop μ-loop
 mul-words c = omega (arith, c .before .before .before .before .before .before .before .good)
@@ -52,18 +49,17 @@ loop-again : tie.Need-loop-again Inv-loop μ-loop
 loop-again c =
     let i = c .before .before .before .loop .inv in
     let a = c .before .before .before .before .before .before .before .args in (
-      i .0,
+      record { width = i .0 .width; cells = i .0 .cells; cubes-long = i .0 .cubes-long; enough = simp length-set (i .0 .enough); below = i .0 .below },
       simp length-set (i .1),
-      simp length-set (i .2),
       omega arith,
-      fill-more (λ k. columnsOf (a .n) (a .table .now) (getD (a .cubes .now) k 0)) (c .before .before .before .loop .words) _ _ (slice-write-words c) (i .4) (c .cube-columns .ensures),
+      fill-more (λ k. columnsOf (a .n) (a .table .now) (getD (a .cubes .now) k 0)) (c .before .before .before .loop .words) _ _ (slice-write-words c) (i .3) (c .cube-columns .ensures),
     )
 
 same-length : tie.Need-same-length Inv-loop μ-loop
-same-length c = c .before .loop .inv .2
+same-length c = c .before .loop .inv .1
 
 returns : tie.Need-returns Inv-loop μ-loop
-returns c = λ k l. c .before .loop .inv .4 k (omega arith)
+returns c = λ k l. c .before .loop .inv .3 k (omega arith)
 
 pub fill-words-spec : {M : Type 1} → statement M
 fill-words-spec =
