@@ -1,0 +1,139 @@
+#!/usr/bin/env python3
+"""Holds the documents to the sources: what docs/PROMISES.md names is there, it names every must-fail edit, and README.md counts the believed pages rightly.
+
+    python3 check.py             prints each name that is not there, and at the end 'N passed, M failed'
+    python3 check.py --pages     the believed pages that README.md lists, each with its number of lines, and their sum
+
+In docs/PROMISES.md a line 'says it' or 'theorem' names definitions, each with its crate and file, as in `badWidth` (cube `Calls`); 'promised by' and
+'where' name functions, as in `plan::plan`; 'guarded by' and 'shut out by' name must-fail edits and theorems, `Refuted.NAME`; 'run by' names tests.
+"""
+import pathlib
+import re
+import sys
+
+TOP = pathlib.Path(__file__).resolve().parent.parent.parent
+CRATES = TOP / "crates"
+
+passed = failed = 0
+
+
+def expect(what, holds):
+    global passed, failed
+    if holds:
+        passed += 1
+    else:
+        failed += 1
+        print("not there:", what)
+
+
+def text(pattern):
+    """What stands in all files that a pattern finds below crates/."""
+    return "\n".join(path.read_text() for path in sorted(CRATES.glob(pattern)))
+
+
+STATED = text("*/specs/*.antt") + text("*/src/*.rt")
+PROVED = text("*/proofs/*.antt") + text("*/proofs/**/Proof.antt")
+EDITS = {path.stem for path in CRATES.glob("*/must-fail/*.edit")}
+REFUTED = set(re.findall(r"pub ([a-z0-9-]+) :", text("*/proofs/Refuted.antt")))
+
+
+def word(name, body):
+    return re.search(r"(?<![\w-])%s(?![\w-])" % re.escape(name), body) is not None
+
+
+def has_function(name):
+    """crate::function, crate::module::function, or a bare function's name."""
+    *path, function = name.split("::")
+    sources = sorted((CRATES / path[0] / "src").glob("*.rt")) if path else sorted(CRATES.glob("*/src/*.rt"))
+    return any(re.search(r"\bfn %s\b" % re.escape(function), source.read_text()) for source in sources)
+
+
+def entries(path):
+    """The entries of the promises: the words in front of the colon, and what follows it, lines joined."""
+    entry = None
+    for line in path.read_text().splitlines():
+        start = re.match(r"  - ([a-z][^:`]*(?:\([^)]*\))?[^:`]*): (.*)", line)
+        if start:
+            if entry:
+                yield entry
+            entry = [start.group(1), start.group(2)]
+        elif entry and line.startswith("    "):
+            entry[1] += " " + line.strip()
+        else:
+            if entry:
+                yield entry
+            entry = None
+    if entry:
+        yield entry
+
+
+def check_files(said):
+    """Each file that is named with its crate."""
+    for crate, name in re.findall(r"\(?\b([a-z_]+) `((?:proofs/)?[A-Z]\w*)`", said):
+        folder = CRATES / crate
+        if folder.is_dir() and not name.startswith("Refuted"):
+            place = folder / (name + ".antt") if name.startswith("proofs/") else folder / "specs" / (name + ".antt")
+            expect("%s in crate %s" % (name, crate), place.is_file() or (folder / "proofs" / (name + ".antt")).is_file())
+
+
+def check_promises():
+    for kind, said in entries(TOP / "docs" / "PROMISES.md"):
+        check_files(said)
+        names = re.findall(r"`([^`]+)`", said)
+        for name in names:
+            if kind.startswith(("guarded by", "shut out by")):
+                bare = name.removeprefix("Refuted.")
+                if re.fullmatch(r"[a-z0-9_]+", name):
+                    expect("edit %s" % name, name in EDITS or bare in REFUTED or word(name, STATED))
+                elif re.fullmatch(r"(Refuted\.)?[a-z0-9-]+", name):
+                    expect("theorem %s" % name, bare in REFUTED)
+            elif kind.startswith(("says it", "theorem", "promised by", "where")):
+                if "::" in name:
+                    expect("function %s" % name, has_function(name))
+                elif re.fullmatch(r"[A-Za-z][\w-]*(\.[\w-]+)?", name):
+                    expect("definition %s" % name, all(word(part, STATED) or word(part, PROVED) or has_function(part) or (CRATES / part).is_dir()
+                                                       or any(CRATES.glob("*/*/%s.antt" % part)) for part in name.split(".")))
+                elif name.startswith(("crates/", "tests/", "docs/")):
+                    expect(name, (TOP / name).exists())
+            elif kind.startswith("run by"):
+                expect("test %s" % name, (TOP / name).exists() or (CRATES / name).is_dir())
+
+
+def pages():
+    """The pages of README.md's reading order: each path, and the names that follow it stand in the same folder."""
+    readme = (TOP / "README.md").read_text()
+    order = readme[readme.index("## What to believe"):readme.index("## The crates")]
+    found, folder = [], None
+    for name in re.findall(r"`([\w/]*[A-Z]\w*\.antt)`", order):
+        folder = (TOP / name).parent if "/" in name else folder
+        page = folder / name.split("/")[-1]
+        if page not in found:
+            found.append(page)
+    return found
+
+
+def lines(page):
+    return len(page.read_text().splitlines())
+
+
+def main(words):
+    if words == ["--pages"]:
+        for page in pages():
+            print("%5d %s" % (lines(page), page.relative_to(TOP)))
+        print("%5d" % sum(map(lines, pages())))
+        return 0
+    check_promises()
+    promises = (TOP / "docs" / "PROMISES.md").read_text()
+    for edit in sorted(EDITS):
+        expect("edit %s in docs/PROMISES.md" % edit, word(edit, promises))
+    for page in pages():
+        expect("%s, a page to believe" % page.relative_to(TOP), page.is_file())
+    said = re.search(r"([\d,]+) lines\s+with their comments", (TOP / "README.md").read_text())
+    total = sum(map(lines, filter(pathlib.Path.is_file, pages())))
+    expect("README.md's number of believed lines, %d" % total, said is not None and int(said.group(1).replace(",", "")) == total)
+    print("%d passed, %d failed" % (passed, failed))
+    return 1 if failed or not passed else 0
+
+
+if __name__ == "__main__":
+    sys.exit(main(sys.argv[1:]))
