@@ -8,8 +8,7 @@ use Rattle.cube.specs.Calls.{firstOf, tableConditions, gives}
 use Rattle.cube.specs.Minimum.{Minimum}
 use Rattle.plan.specs.Plan.{ascending}
 use Rattle.text.specs.Input.{Table, read}
-use Rattle.text.specs.Output.{outputOf}
-use Rattle.text.specs.Printing.{Prints}
+use Rattle.text.specs.Output.{outputOf, Prints}
 
 -- Plan may write this list for a table of n variables
 pub record MayWrite (n : ℕ) (t : List ℕ) (list : Cover) : Type 0 where

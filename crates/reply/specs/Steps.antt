@@ -5,10 +5,9 @@ use mathlib.Core.List.{List}
 use Prim.Native.Nat.{ℕ}
 use Rattle.cube.specs.Words.{Cover}
 use Rattle.cube.specs.Calls.{firstOf, tableConditions, gives}
-use Rattle.text.specs.Input.{Table, closed}
-use Rattle.text.specs.Output.{planned, printed}
-use Rattle.text.specs.Reading.{stateOf}
-use Rattle.text.specs.Printing.{Prints}
+use Rattle.text.specs.Input.{Table}
+use Rattle.text.specs.Output.{tableText, printed, Prints}
+use Rattle.text.specs.Steps.{closed, stateOf}
 use Rattle.text.specs.declared.input.Reading.{Reading}
 use Rattle.reply.specs.Reply.{MayWrite}
 
@@ -16,7 +15,7 @@ use Rattle.reply.specs.Reply.{MayWrite}
 pub record PrintsTable (n : ℕ) (t old new : List ℕ) (r : ℕ) : Type 0 where
   pub list : Cover
   pub is-written : firstOf (tableConditions n t) ≡ 0 → MayWrite n t list
-  pub prints : Prints (planned (firstOf (tableConditions n t)) n list) old new r
+  pub prints : Prints (tableText (firstOf (tableConditions n t)) n list) old new r
 
 -- the same for what was read, at the end of the input
 pub record PrintsState (reading : Reading) (cells old new : List ℕ) (r : ℕ) : Type 0 where

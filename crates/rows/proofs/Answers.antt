@@ -1,4 +1,4 @@
--- What the answer of a read says: the read failed, the input is at its end, or so many bytes came. A local holds the bits of the answer, and the
+-- What the answer of a read says: the read failed, the input is at its end, or this many bytes came. A local holds the bits of the answer, and the
 -- contract speaks of the number. Assumes nothing.
 use mathlib.Core.Path.{_≡_, refl, sym, ap, subst, _∙_}
 use mathlib.Core.Bool.{true, false}
@@ -14,7 +14,7 @@ use mir.Facts.{toZ-ofZ}
 use borrow.Author.Tests.{ltb-true}
 use Rattle.io.specs.Counts.{clamped}
 use Rattle.libc.specs.Io.{Moved}
-use Rattle.text.specs.Input.{State, wrong, fed}
+use Rattle.text.specs.Steps.{State, wrong, fed}
 use Rattle.rows.specs.Steps.{endsInput, afterRead}
 
 module _ (s : State) (piece : List ℕ) where

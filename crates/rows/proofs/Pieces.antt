@@ -5,8 +5,7 @@ use Prim.Native.Nat.{ℕ, _≤_}
 use native.Mathlib.Omega.{arith}
 use lib.IntN.{ℤ, pos, negsuc}
 use lib.ListN.{length, take}
-use Rattle.text.specs.Input.{mostCells, State, atStart, fed}
-use Rattle.text.specs.Reading.{stateOf}
+use Rattle.text.specs.Steps.{mostCells, State, atStart, fed, stateOf}
 use Rattle.text.specs.declared.input.Reading.{Reading}
 use Rattle.text.specs.declared.input.Reading.the-variants.{Start, Wrong}
 use Rattle.text.proofs.Stepping.{fed-append}

@@ -6,8 +6,7 @@ use mathlib.Core.List.{List}
 use Prim.Native.Nat.{ℕ, zero, suc}
 use lib.IntN.{ℤ, pos, negsuc}
 use lib.ListN.{take}
-use Rattle.text.specs.Input.{State, atStart, wrong, fed}
-use Rattle.text.specs.Reading.{stateOf, Room}
+use Rattle.text.specs.Steps.{State, atStart, wrong, fed, stateOf, Room}
 use Rattle.text.specs.declared.input.Reading.{Reading}
 use Rattle.reply.specs.Reply.{PrintsInput}
 use Rattle.rows.specs.declared.Turn.{Turn}

@@ -9,9 +9,7 @@ use text::output::MOST_OUTPUT;
 ghost use lib.ListN.{length};
 ghost use Prim.Native.Nat.{_≤_};
 ghost use Rattle.libc.specs.Io.{Moved};
-ghost use Rattle.text.specs.Input.{mostCells};
-ghost use Rattle.text.specs.Output.{mostOutput};
-ghost use Rattle.text.specs.Reading.{Room};
+ghost use Rattle.text.specs.Steps.{mostCells, Room, mostOutput};
 ghost use Rattle.rows.specs.Rows.{WholeOutput};
 ghost use Rattle.rows.specs.Steps.{Turned, ReadAll, PrintsRead};
 

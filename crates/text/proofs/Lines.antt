@@ -5,17 +5,17 @@ use mathlib.Core.List.{List, [], _∷_, _++_, append-nil, append-assoc}
 use Prim.Native.Nat.{ℕ, _+_, _*_, _^_, _<_, _≤_}
 use native.Mathlib.Nat.{zero-add, add-zero}
 use native.Mathlib.Omega.{arith}
-use lib.ListN.{length, length-append, set}
-use lib.Seq.{sets, length-sets, length-take-le}
+use lib.ListN.{length, length-append, take, drop, set}
+use lib.Seq.{sets, length-sets, take-append-seam}
 use Rattle.numbers.specs.Below.{run}
 use Rattle.cube.specs.Words.{Row, Cover}
 use Rattle.cube.specs.Calls.{widest}
 use Rattle.numbers.proofs.Below.{run-length}
 use Rattle.numbers.proofs.Lent.{sets-append, sets-front}
 use Rattle.text.specs.Characters.{bytes, lineFeed}
-use Rattle.text.specs.Output.{decimal, characterOfVariable, rowLine, listLines, totals, refused, mostDigits, mostOutput}
+use Rattle.text.specs.Output.{inDecimal, characterOfVariable, rowLine, listLines, totalsLine, refused, Prints}
+use Rattle.text.specs.Steps.{mostDigits, mostOutput}
 use Rattle.cube.specs.Steps.{Puts}
-use Rattle.text.specs.Printing.{Prints}
 use Rattle.text.proofs.Decimals.{decimal-length}
 
 -- ---- one behind the other
@@ -55,9 +55,14 @@ room-last y p l = omega (arith, room-second (y ∷ []) p l)
 
 -- from the front
 pub puts-front : {text old new : List ℕ} {r : ℕ} → length text ≤ length old → Puts text old 0 new r → Prints text old new r
-puts-front {text} {old} {new} {r} l p =
-    let inside : r ≤ length new = omega (arith, p .behind, puts-long p) in
-    record { count = p .behind ∙ zero-add (length text); places = p .places ∙ sets-front text old l; inside = inside; front = sym (length-take-le r new inside) }
+puts-front {text} {old} l p = record { answer = p .behind ∙ zero-add (length text); places = p .places ∙ sets-front text old l }
+
+-- and what was put there can be lent on
+pub prints-text : {text old new : List ℕ} {r : ℕ} → Prints text old new r → take r new ≡ text
+prints-text {text} {old} {new} p = ap₂ take (p .answer) (p .places) ∙ take-append-seam text (drop (length text) old)
+
+pub prints-inside : {text old new : List ℕ} {r : ℕ} → Prints text old new r → r ≤ length new
+prints-inside {text} {old} p = omega (arith, p .answer, ap length (p .places), length-append text (drop (length text) old))
 
 -- ---- lines
 
@@ -77,24 +82,24 @@ lines-length n (r ∷ rs) l = omega (arith, length-append (rowLine n r) (listLin
 -- ---- how long the texts are
 
 -- 20 digits are enough for a number of 64 bits
-digits-few : (x : ℕ) → x < 2 ^ 64 → length (decimal x) ≤ mostDigits
+digits-few : (x : ℕ) → x < 2 ^ 64 → length (inDecimal x) ≤ mostDigits
 digits-few x l = decimal-length 19 x (omega arith)
 
-pub totals-length : (rows bits : ℕ) → rows < 2 ^ 64 → bits < 2 ^ 64 → length (totals rows bits) ≤ length (bytes "rows  bits ") + 2 * mostDigits + 1
+pub totals-length : (rows bits : ℕ) → rows < 2 ^ 64 → bits < 2 ^ 64 → length (totalsLine rows bits) ≤ length (bytes "rows  bits ") + 2 * mostDigits + 1
 totals-length rows bits l m =
-    let first : List ℕ = bytes "rows " ++ decimal rows in
-    let second : List ℕ = bytes " bits " ++ decimal bits in
+    let first : List ℕ = bytes "rows " ++ inDecimal rows in
+    let second : List ℕ = bytes " bits " ++ inDecimal bits in
     omega (
       arith,
       length-append (first ++ second) (lineFeed ∷ []),
       length-append first second,
-      length-append (bytes "rows ") (decimal rows),
-      length-append (bytes " bits ") (decimal bits),
+      length-append (bytes "rows ") (inDecimal rows),
+      length-append (bytes " bits ") (inDecimal bits),
       digits-few rows l,
       digits-few bits m,
     )
 
 pub refused-length : (k : ℕ) → k < 2 ^ 64 → length (refused k) ≤ mostOutput
 refused-length k l =
-    let text : List ℕ = bytes "refused " ++ decimal k in
-    omega (arith, length-append text (lineFeed ∷ []), length-append (bytes "refused ") (decimal k), digits-few k l)
+    let text : List ℕ = bytes "refused " ++ inDecimal k in
+    omega (arith, length-append text (lineFeed ∷ []), length-append (bytes "refused ") (inDecimal k), digits-few k l)
