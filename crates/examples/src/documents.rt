@@ -8,16 +8,22 @@ pub fn document_01() {
     example(b"01-d", 2, b"100-");
 }
 
-pub fn document_000() {
+pub fn document_000_sections_2_to_3() {
     example(b"000-table-I", 3, b"01111110");
     example(b"000-section-2", 4, b"0000000101101111");
     example(b"000-example-3.1", 4, b"0001000111001100");
     example(b"000-example-3.2", 4, b"0000010100001100");
+}
+
+pub fn document_000_tables_2_to_8() {
     example(b"000-table-II", 5, b"10101011101111101011000000000110");
     example(b"000-table-III", 4, b"1010101000000000");
     example(b"000-table-V", 5, b"11110001000000110000001100000101");
     example(b"000-table-VII", 5, b"10001000000010001001000010011101");
     example(b"000-table-VIII", 4, b"1110011101110111");
+}
+
+pub fn document_000_sections_7_to_11() {
     example(b"000-section-7", 4, b"0000010000100000");
     example(b"000-table-IX", 5, b"11101111110101111011110111111110");
     example(b"000-table-XII", 4, b"1001111110110000");

@@ -6,7 +6,9 @@ mod terms;
 
 fn main() {
     documents::document_01();
-    documents::document_000();
+    documents::document_000_sections_2_to_3();
+    documents::document_000_tables_2_to_8();
+    documents::document_000_sections_7_to_11();
     documents::document_001();
     documents::documents_002_and_003();
 }

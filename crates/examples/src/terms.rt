@@ -3,6 +3,10 @@ use cube::Counted;
 use plan::Planned;
 use spelling::MOST_CODES;
 use spelling::MOST_CUBES;
+ghost use Prim.Native.Nat.{_≤_, _^_};
+ghost use lib.ListN.{length};
+ghost use Rattle.cube.specs.Calls.{widest};
+ghost use Rattle.io.specs.Counts.{Counts};
 
 // The cell that a character of a table stands for.
 fn cell_of(character: u8) -> u8 {
@@ -13,16 +17,17 @@ fn cell_of(character: u8) -> u8 {
     }
 }
 
-// The cells of a table written as a run of 0, 1 and -.
-fn read_cells(text: &[u8], cells: &mut [u8]) {
-    if cells.len() < text.len() {
-        return;
-    }
+// The cells of a table written as a run of 0, 1 and -. Returns how many they are.
+fn read_cells(text: &[u8], cells: &mut [u8]) -> usize
+    requires { ⌜ length (now text) ≤ length (now cells) ⌝ }
+    ensures { λ r. ⌜ Counts r (now (cells .exit)) ⌝ }
+{
     let mut c = 0;
     while c < text.len() {
         cells[c] = cell_of(text[c]);
         c += 1;
     }
+    c
 }
 
 fn digit(d: usize) {
@@ -34,20 +39,21 @@ fn digit(d: usize) {
 }
 
 // The digits of a cube.
-fn term(n: usize, cube: usize) {
-    if spelling::bad_width(n) {
-        return;
-    }
+fn term(n: usize, cube: usize)
+    requires { ⌜ n ≤ widest ⌝ }
+{
     crate::print::text(b" ");
     let mut k = n;
     while 0 < k {
-        digit(spelling::digit(cube, k - 1));
         k -= 1;
+        digit(spelling::digit(cube, k));
     }
 }
 
 // The listed terms.
-fn terms(n: usize, count: usize, places: &[u16]) {
+fn terms(n: usize, count: usize, places: &[u16])
+    requires { ⌜ n ≤ widest ⌝ }
+{
     if places.len() < count {
         return;
     }
@@ -56,23 +62,27 @@ fn terms(n: usize, count: usize, places: &[u16]) {
         term(n, places[i] as usize);
         i += 1;
     }
-    crate::print::text(b"\n");
 }
 
-fn report(title: &[u8], n: usize, answer: Counted, places: &[u16]) {
+fn report(title: &[u8], n: usize, answer: Counted, places: &[u16])
+    requires { ⌜ n ≤ widest ⌝ }
+{
     crate::print::text(title);
     match answer {
         Counted::Count(count) => {
             crate::print::number(count);
             crate::print::text(b":");
             terms(n, count, places);
+            crate::print::text(b"\n");
         }
         Counted::Refused(k) => crate::print::refused(k),
     }
 }
 
 // The primes and the essentials of a table.
-fn report_terms(n: usize, table: &[u8]) {
+fn report_terms(n: usize, table: &[u8])
+    requires { ⌜ n ≤ widest ⌝ }
+{
     let mut places = [0u16; MOST_CUBES];
     let primes = primes::primes(n, table, &mut places);
     report(b"  primes ", n, primes, &places);
@@ -99,16 +109,14 @@ fn report_plan(n: usize, table: &[u8]) {
 }
 
 // What the calls answer for a table written as a run of 0, 1 and -.
-pub fn example(name: &[u8], n: usize, text: &[u8]) {
+pub fn example(name: &[u8], n: usize, text: &[u8])
+    requires { ⌜ (n ≤ widest) × (length (now text) ≤ 2 ^ widest) ⌝ }
+{
     crate::print::text(name);
     crate::print::text(b"\n");
     let mut cells = [0u8; MOST_CODES];
-    read_cells(text, &mut cells);
-    let end = text.len();
-    if MOST_CODES < end {
-        return;
-    }
-    let table = &cells[..end];
+    let count = read_cells(text, &mut cells);
+    let table = &cells[..count];
     report_terms(n, table);
     report_plan(n, table);
 }

@@ -1,10 +1,8 @@
 -- Document 01's example: the four primes of case f are all in its shortest lists, so there is one list, and the checker computes its lines.
 -- Assumes nothing.
 use mathlib.Core.Path.{_≡_, refl, ap, _∙_}
-use Prim.Native.Nat.{ℕ}
 use native.Mathlib.Omega.{arith}
-use lib.ListN.{length, take, drop}
-use lib.Seq.{take-append-seam}
+use lib.ListN.{length}
 use Rattle.numbers.specs.Below.{every, some, those, among, run}
 use Rattle.cube.specs.Words.{Cover, valueOf, careOf, cubeMatches, cubeLiterals, within, implicant, prime, primesOf}
 use Rattle.cube.specs.Calls.{badCell}
@@ -17,7 +15,7 @@ use Rattle.text.specs.Input.{read, readRun}
 use Rattle.text.specs.Output.{outputOf}
 use Rattle.text.specs.Theorems.{exampleList}
 use Rattle.text.proofs.Examples.{examples}
-use Rattle.reply.specs.Reply.{Written}
+use Rattle.reply.specs.Reply.{MayWrite}
 use Rattle.reply.specs.Theorems.{GivesExactly}
 use Rattle.reply.proofs.Sole.{all-primes}
 
@@ -25,7 +23,7 @@ holds-f : Holds case-f
 unfolding cases
 holds-f = all-cases .1 .1 .1 .1 .1 .0
 
-the-list : (list : Cover) → Written 4 (tableOf case-f) list → list ≡ exampleList
+the-list : (list : Cover) → MayWrite 4 (tableOf case-f) list → list ≡ exampleList
 unfolding ascendsFrom among tableOf every some those run cubeMatches cubeLiterals within implicant prime primesOf valueOf careOf
 the-list list w =
     let rows : length list ≡ 4 = shortest 4 (tableOf case-f) .counts list (holds-f .list) (w .minimum) (holds-f .minimum) .0 ∙ holds-f .rows in
@@ -33,8 +31,6 @@ the-list list w =
 
 pub gives-exactly : GivesExactly
 unfolding read readRun badCell among tableOf some run
-gives-exactly old new r p =
-    let text = outputOf (bytes "4\n0000000101101111\n") (p .list) in
+gives-exactly text p =
     let is = the-list (p .list) (p .is-written (record { width = 4; cells = tableOf case-f }) refl refl) in
-    ap (λ (k : ℕ). take k new) (p .prints .count) ∙ ap (take (length text)) (p .prints .places) ∙ take-append-seam text (drop (length text) old)
-    ∙ ap (outputOf (bytes "4\n0000000101101111\n")) is ∙ examples .list
+    p .is-output ∙ ap (outputOf (bytes "4\n0000000101101111\n")) is ∙ examples .list

@@ -14,14 +14,14 @@ use Rattle.plan.proofs.Refusals.{refuses-table, refuses-none}
 use Rattle.plan.specs.Theorems.{Held}
 use Rattle.plan.proofs.Answers.{not-refused, accepted-refused, refused-by}
 use Rattle.plan.proofs.Theorems.{arrays-hold}
-use Rattle.text.specs.Input.{Table, kept, keep, State, atStart, fed, closed}
-use Rattle.text.specs.Output.{mostOutput, refused, listText, planned, printed}
-use Rattle.text.specs.Reading.{stateOf}
-use Rattle.text.specs.Printing.{Printable, Prints}
+use Rattle.text.specs.Input.{Table}
+use Rattle.text.specs.Output.{refused, listText, tableText, printed, outputOf, Prints}
+use Rattle.text.specs.Steps.{keep, keptOf, State, atStart, fed, closed, stateOf, mostOutput, Printable}
 use Rattle.text.specs.declared.input.Reading.{Reading}
 use Rattle.text.proofs.Keeping.{keeping, same-output}
 use Rattle.text.proofs.Stepping.{stepping}
-use Rattle.reply.specs.Reply.{Written, PrintsTable, PrintsState, PrintsInput}
+use Rattle.reply.specs.Reply.{MayWrite, PrintsInput}
+use Rattle.reply.specs.Steps.{PrintsTable, PrintsState}
 
 module _ (n : ℕ) (t values cares values′ cares′ : List ℕ) (v : length values ≡ 64) (w : length cares ≡ 64) where
   -- with places for the widest table, Plan refuses what a table is refused for
@@ -60,7 +60,7 @@ module _ (n : ℕ) (t values cares values′ cares′ : List ℕ) (v : length va
           is-written = λ e. record { minimum = held .minimum; is-ascending = held .is-ascending };
           prints =
               subst (λ (text : List ℕ). Prints text old new r)
-              (ap₂ (λ (x y : ℕ). listText n list x y) (sym (held .row-count)) (sym (held .bit-count)) ∙ ap (λ (k : ℕ). planned k n list) (sym table-accepted)) q;
+              (ap₂ (λ (x y : ℕ). listText n list x y) (sym (held .row-count)) (sym (held .bit-count)) ∙ ap (λ (k : ℕ). tableText k n list) (sym table-accepted)) q;
         }
 
   pub refusal-printed : (k : ℕ) → Plans n t values cares values′ cares′ (Refused k) → (old new : List ℕ) (r : ℕ) → Prints (refused k) old new r → PrintsTable n t old new r
@@ -72,7 +72,7 @@ module _ (n : ℕ) (t values cares values′ cares′ : List ℕ) (v : length va
         prints = subst (λ (text : List ℕ). Prints text old new r) (refused-is (firstOf (tableConditions n t)) refl number) q;
       }
     where
-      refused-is : (i : ℕ) → firstOf (tableConditions n t) ≡ i → i ≡ k → refused k ≡ planned i n (p .list)
+      refused-is : (i : ℕ) → firstOf (tableConditions n t) ≡ i → i ≡ k → refused k ≡ tableText i n (p .list)
       refused-is zero e z = absurd (accepted-refused n t values cares values′ cares′ k p (refusal-is ∙ e))
       refused-is (suc i) e z = ap refused (sym z)
 
@@ -82,7 +82,7 @@ module _ (reading : Reading) (cells old new : List ℕ) (r : ℕ) where
   pub table-said : (n : ℕ) (t : List ℕ) → gives (record { width = n; cells = t }) ≡ closed (stateOf reading cells) → PrintsTable n t old new r → PrintsState reading cells old new r
   table-said n t e p = record {
     list = p .list;
-    is-written = λ x z a. subst (λ (y : Table). firstOf (tableConditions (y .width) (y .cells)) ≡ 0 → Written (y .width) (y .cells) (p .list)) (same-value (record { width = n; cells = t }) x (e ∙ z)) (p .is-written) a;
+    is-written = λ x z a. subst (λ (y : Table). firstOf (tableConditions (y .width) (y .cells)) ≡ 0 → MayWrite (y .width) (y .cells) (p .list)) (same-value (record { width = n; cells = t }) x (e ∙ z)) (p .is-written) a;
     prints = subst (λ (a : Answer Table). Prints (printed a (p .list)) old new r) e (p .prints);
   }
 
@@ -98,11 +98,15 @@ module _ (reading : Reading) (cells old new : List ℕ) (r : ℕ) where
 pub input-said : (input cells : List ℕ) (reading : Reading) (old new : List ℕ) (r : ℕ) → stateOf reading cells ≡ fed atStart input → PrintsState reading cells old new r
     → PrintsInput input old new r
 input-said input cells reading old new r e p = record {
-  list = p .list;
-  is-written = λ x z a.
-      let k = keeping (x .width) (x .cells) in
-      subst (λ (cells : List ℕ). Written (x .width) cells (p .list)) (k .whole a)
-      (p .is-written (record { width = x .width; cells = keep (x .cells) }) (ap closed e ∙ stepping input .whole ∙ ap kept z) (k .refusal [] ∙ a));
+  text = outputOf input (p .list);
+  output = record {
+    list = p .list;
+    is-written = λ x z a.
+        let k = keeping (x .width) (x .cells) in
+        subst (λ (cells : List ℕ). MayWrite (x .width) cells (p .list)) (k .whole a)
+        (p .is-written (record { width = x .width; cells = keep (x .cells) }) (ap closed e ∙ stepping input ∙ ap keptOf z) (k .refusal [] ∙ a));
+    is-output = refl;
+  };
   prints =
       subst (λ (text : List ℕ). Prints text old new r) (ap (λ (s : State). printed (closed s) (p .list)) e ∙ same-output input (p .list)) (p .prints);
 }

@@ -1,3 +1,4 @@
--- What is printed for a table, for a state of reading, and for a whole input; document 01's example.
+-- What is printed for a whole input; document 01's example; what is printed on the way.
 pub mod Reply
 pub mod Theorems
+pub mod Steps

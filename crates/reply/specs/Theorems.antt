@@ -1,12 +1,10 @@
--- What is proved of the printed text beyond what each call prints. `proofs/` proves it. Assumes nothing.
+-- What is proved of the output beyond what each call prints. `proofs/` proves it. Assumes nothing.
 use mathlib.Core.Path.{_≡_}
 use mathlib.Core.List.{List}
 use Prim.Native.Nat.{ℕ}
-use lib.ListN.{take}
 use Rattle.text.specs.Characters.{bytes}
-use Rattle.reply.specs.Reply.{PrintsInput}
+use Rattle.reply.specs.Reply.{OutputFor}
 
 -- "Input `4` and `0000000101101111` gives exactly": here nothing is left open, since no other list is as good
 abbrev pub GivesExactly : Type 0
-GivesExactly =
-    (old new : List ℕ) (r : ℕ) → PrintsInput (bytes "4\n0000000101101111\n") old new r → take r new ≡ bytes "11--\n1-01\n1-10\n-111\nrows 4 bits 11\n"
+GivesExactly = (text : List ℕ) → OutputFor (bytes "4\n0000000101101111\n") text → text ≡ bytes "11--\n1-01\n1-10\n-111\nrows 4 bits 11\n"

@@ -8,9 +8,9 @@ use text::input::Reading;
 use text::input::Text;
 ghost use Prim.Native.Nat.{_≤_};
 ghost use lib.ListN.{length};
-ghost use Rattle.text.specs.Output.{mostOutput};
-ghost use Rattle.text.specs.Reading.{Room};
-ghost use Rattle.reply.specs.Reply.{PrintsTable, PrintsState, PrintsInput};
+ghost use Rattle.text.specs.Steps.{Room, mostOutput};
+ghost use Rattle.reply.specs.Reply.{PrintsInput};
+ghost use Rattle.reply.specs.Steps.{PrintsTable, PrintsState};
 
 // What is printed for a table of n variables.
 fn table(n: usize, cells: &[u8], out: &mut [u8]) -> usize

@@ -1,4 +1,4 @@
--- What the answer of a read says: the read failed, the input is at its end, or so many bytes came. A local holds the bits of the answer, and the
+-- What the answer of a read says: the read failed, the input is at its end, or this many bytes came. A local holds the bits of the answer, and the
 -- contract speaks of the number. Assumes nothing.
 use mathlib.Core.Path.{_≡_, refl, sym, ap, subst, _∙_}
 use mathlib.Core.Bool.{true, false}
@@ -14,20 +14,20 @@ use mir.Facts.{toZ-ofZ}
 use borrow.Author.Tests.{ltb-true}
 use Rattle.io.specs.Counts.{clamped}
 use Rattle.libc.specs.Io.{Moved}
-use Rattle.text.specs.Input.{State, wrong, fed}
-use Rattle.rows.specs.Rows.{ends, behind}
+use Rattle.text.specs.Steps.{State, wrong, fed}
+use Rattle.rows.specs.Steps.{endsInput, afterRead}
 
 module _ (s : State) (piece : List ℕ) where
-  failed : (z : ℤ) → ltZ z (pos 0) ≡ true → (wrong ≡ behind s z piece) × (true ≡ ends z)
+  failed : (z : ℤ) → ltZ z (pos 0) ≡ true → (wrong ≡ afterRead s z piece) × (true ≡ endsInput z)
   failed (pos k) e = absurd (omega (arith, ltb-true k 0 e))
   failed (negsuc k) e = (refl, refl)
 
-  at-end : (z : ℤ) → pos 0 ≡ z → (s ≡ behind s z piece) × (true ≡ ends z)
+  at-end : (z : ℤ) → pos 0 ≡ z → (s ≡ afterRead s z piece) × (true ≡ endsInput z)
   unfolding fed
-  at-end z e = subst (λ (x : ℤ). (s ≡ behind s x piece) × (true ≡ ends x)) e (refl, refl)
+  at-end z e = subst (λ (x : ℤ). (s ≡ afterRead s x piece) × (true ≡ endsInput x)) e (refl, refl)
 
   came : (z : ℤ) → ltZ z (pos 0) ≡ false → (pos 0 ≡ z → ⊥) → Moved (length piece) z
-      → (fed s (take (clamped z (length piece)) piece) ≡ behind s z piece) × (false ≡ ends z)
+      → (fed s (take (clamped z (length piece)) piece) ≡ afterRead s z piece) × (false ≡ endsInput z)
   came (pos zero) e n m = absurd (n refl)
   came (pos (suc k)) e n m = let all : min (suc k) (length piece) ≡ suc k = omega arith in (ap (λ (j : ℕ). fed s (take j piece)) all, refl)
   came (negsuc k) e n m = let z : _≡_ {A = ℕ} 0 1 = cc in absurd (omega arith)
@@ -35,14 +35,14 @@ module _ (s : State) (piece : List ℕ) where
   -- ---- the same of the bits of an answer
 
   module _ (z : ℤ) (f : SFits w64 z) where
-    pub bits-failed : ltZ (toZ w64 (ofZ w64 z)) (pos 0) ≡ true → (wrong ≡ behind s z piece) × (true ≡ ends z)
+    pub bits-failed : ltZ (toZ w64 (ofZ w64 z)) (pos 0) ≡ true → (wrong ≡ afterRead s z piece) × (true ≡ endsInput z)
     bits-failed e = failed z (ap (λ (x : ℤ). ltZ x (pos 0)) (sym (toZ-ofZ f)) ∙ e)
 
-    pub bits-at-end : ofZ w64 z ≡ 0 → (s ≡ behind s z piece) × (true ≡ ends z)
+    pub bits-at-end : ofZ w64 z ≡ 0 → (s ≡ afterRead s z piece) × (true ≡ endsInput z)
     bits-at-end e = at-end z (sym (ap (toZ w64) e) ∙ toZ-ofZ f)
 
     pub bits-came : ltZ (toZ w64 (ofZ w64 z)) (pos 0) ≡ false → (ofZ w64 z ≡ 0 → ⊥) → Moved (length piece) z
-        → (fed s (take (clamped (toZ w64 (ofZ w64 z)) (length piece)) piece) ≡ behind s z piece) × (false ≡ ends z)
+        → (fed s (take (clamped (toZ w64 (ofZ w64 z)) (length piece)) piece) ≡ afterRead s z piece) × (false ≡ endsInput z)
     bits-came e n m =
         let c = came z (ap (λ (x : ℤ). ltZ x (pos 0)) (sym (toZ-ofZ f)) ∙ e) (λ x. n (sym (ap (ofZ w64) x))) m in
         (ap (λ (x : ℤ). fed s (take (clamped x (length piece)) piece)) (toZ-ofZ f) ∙ c .0, c .1)

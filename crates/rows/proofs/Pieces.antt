@@ -5,12 +5,11 @@ use Prim.Native.Nat.{ℕ, _≤_}
 use native.Mathlib.Omega.{arith}
 use lib.IntN.{ℤ, pos, negsuc}
 use lib.ListN.{length, take}
-use Rattle.text.specs.Input.{mostCells, State, atStart, fed}
-use Rattle.text.specs.Reading.{stateOf}
+use Rattle.text.specs.Steps.{mostCells, State, atStart, fed, stateOf}
 use Rattle.text.specs.declared.input.Reading.{Reading}
 use Rattle.text.specs.declared.input.Reading.the-variants.{Start, Wrong}
 use Rattle.text.proofs.Stepping.{fed-append}
-use Rattle.rows.specs.Rows.{reached, behind, Turned, ReadAll}
+use Rattle.rows.specs.Steps.{reached, afterRead, Turned, ReadAll}
 use Rattle.rows.specs.declared.Turn.{Turn}
 
 pub read-none : (cells : List ℕ) → mostCells ≤ length cells → ReadAll Start cells
@@ -26,7 +25,7 @@ pub read-more : (reading : Reading) (old : List ℕ) (got : ℤ) (piece : List �
 unfolding fed
 read-more reading old got piece t v new e turned before = subst (λ (x : Turn). ReadAll (reached x) new) e (go got (turned .state))
   where
-    go : (z : ℤ) → stateOf (reached t) new ≡ behind (stateOf reading old) z piece → ReadAll (reached t) new
+    go : (z : ℤ) → stateOf (reached t) new ≡ afterRead (stateOf reading old) z piece → ReadAll (reached t) new
     go (pos k) s = record {
       input = before .input ++ take k piece;
       state = s ∙ ap (λ (x : State). fed x (take k piece)) (before .state) ∙ sym (fed-append atStart (before .input) (take k piece));

@@ -1,2 +1,3 @@
--- What one read leads to.
+-- What is handed to standard output, and what the steps promise.
 pub mod Rows
+pub mod Steps

@@ -1,51 +1,11 @@
--- What the program promises. Of the bytes that a read leaves in its buffer nothing is known, so the input is whatever the reads put there, one piece
--- behind another. Assumes nothing.
-use mathlib.Core.Path.{_≡_}
-use mathlib.Core.Bool.{Bool, true, false}
+-- What the program `rows` hands to standard output: the whole output for the whole of what was read. Of the bytes that a read leaves in its buffer
+-- nothing is known, so the input is whatever the reads put there, one piece behind another. Assumes nothing.
 use mathlib.Core.List.{List}
-use Prim.Native.Nat.{ℕ, zero, suc}
-use lib.IntN.{ℤ, pos, negsuc}
-use lib.ListN.{take}
-use Rattle.text.specs.Input.{State, atStart, wrong, fed}
-use Rattle.text.specs.Reading.{stateOf, Room}
-use Rattle.text.specs.declared.input.Reading.{Reading}
-use Rattle.reply.specs.Reply.{PrintsInput}
-use Rattle.rows.specs.declared.Turn.{Turn}
-use Rattle.rows.specs.declared.Turn.the-variants.{More, Last}
+use Prim.Native.Nat.{ℕ}
+use Rattle.reply.specs.Reply.{OutputFor}
 
--- what was read so far, and whether it is all
-abbrev pub reached : Turn → Reading
-reached (More r) = r
-reached (Last r) = r
-
-abbrev pub isLast : Turn → Bool
-isLast (More r) = false
-isLast (Last r) = true
-
--- A read answers how many bytes it put at the start of the piece: none at the end of the input, and -1 where it fails.
-abbrev pub ends : ℤ → Bool
-ends (pos zero) = true
-ends (pos (suc k)) = false
-ends (negsuc k) = true
-
--- the state behind it; a text that cannot be read is not in form
-abbrev pub behind : State → ℤ → List ℕ → State
-behind s (pos k) piece = fed s (take k piece)
-behind s (negsuc k) piece = wrong
-
--- what a read leads to that answered `got`
-pub record Turned (reading : Reading) (old : List ℕ) (got : ℤ) (piece : List ℕ) (t : Turn) (new : List ℕ) : Type 0 where
-  pub state : stateOf (reached t) new ≡ behind (stateOf reading old) got piece
-  pub last : isLast t ≡ ends got
-  pub room : Room (reached t) new
-
--- the state behind the whole input
-pub record ReadAll (r : Reading) (cells : List ℕ) : Type 0 where
+-- the text is the output for what was read
+pub record WholeOutput (text : List ℕ) : Type 0 where
+  -- the bytes that the reads delivered; where a read failed, a text that is not in form
   pub input : List ℕ
-  pub state : stateOf r cells ≡ fed atStart input
-  pub room : Room r cells
-
--- the output for the whole input stands at the front of the buffer, and r is its length
-pub record Answered (old new : List ℕ) (r : ℕ) : Type 0 where
-  pub input : List ℕ
-  pub prints : PrintsInput input old new r
+  pub output : OutputFor input text

@@ -12,7 +12,7 @@ use lib.ListN.{length, length-append}
 use borrow.Author.Tests.{lt-ltb, le-ltb, ltb-false}
 use Rattle.numbers.proofs.Bools.{lt-or-le}
 use Rattle.text.specs.Characters.{digitCharacter}
-use Rattle.text.specs.Output.{decimalBy, decimal}
+use Rattle.text.specs.Output.{decimalBy, inDecimal}
 use Rattle.text.specs.Theorems.{Decimal}
 
 abbrev last : ℕ → List ℕ
@@ -38,29 +38,29 @@ by-any zero (suc j) x l m = sym (one-digit j x (omega arith))
 by-any (suc k) zero x l m = one-digit k x (omega arith)
 by-any (suc k) (suc j) x l m = same-before x (decimalBy k (x / 10)) (decimalBy j (x / 10)) (λ h. by-any k j (x / 10) (omega arith) (omega arith))
 
-decimal-is : (x : ℕ) → decimal x ≡ cond (ltb x 10) [] (decimal (x / 10)) ++ last x
+decimal-is : (x : ℕ) → inDecimal x ≡ cond (ltb x 10) [] (inDecimal (x / 10)) ++ last x
 unfolding decimalBy
 decimal-is zero = refl
-decimal-is (suc y) = same-before (suc y) (decimalBy y (suc y / 10)) (decimal (suc y / 10)) (λ h. by-any y (suc y / 10) (suc y / 10) (omega arith) (omega arith))
+decimal-is (suc y) = same-before (suc y) (decimalBy y (suc y / 10)) (inDecimal (suc y / 10)) (λ h. by-any y (suc y / 10) (suc y / 10) (omega arith) (omega arith))
 
-decimal-low : (x : ℕ) → x < 10 → decimal x ≡ digitCharacter x ∷ []
+decimal-low : (x : ℕ) → x < 10 → inDecimal x ≡ digitCharacter x ∷ []
 decimal-low x h =
     let same : x % 10 ≡ x = omega arith in
-    decimal-is x ∙ ap (λ (t : Bool). cond t [] (decimal (x / 10)) ++ last x) (lt-ltb x 10 h) ∙ ap (λ (i : ℕ). digitCharacter i ∷ []) same
+    decimal-is x ∙ ap (λ (t : Bool). cond t [] (inDecimal (x / 10)) ++ last x) (lt-ltb x 10 h) ∙ ap (λ (i : ℕ). digitCharacter i ∷ []) same
 
-decimal-high : (x : ℕ) → 10 ≤ x → decimal x ≡ decimal (x / 10) ++ (digitCharacter (x % 10) ∷ [])
-decimal-high x h = decimal-is x ∙ ap (λ (t : Bool). cond t [] (decimal (x / 10)) ++ last x) (le-ltb x 10 h)
+decimal-high : (x : ℕ) → 10 ≤ x → inDecimal x ≡ inDecimal (x / 10) ++ (digitCharacter (x % 10) ∷ [])
+decimal-high x h = decimal-is x ∙ ap (λ (t : Bool). cond t [] (inDecimal (x / 10)) ++ last x) (le-ltb x 10 h)
 
 pub decimals : (x : ℕ) → Decimal x
 decimals x = record { low = decimal-low x; high = decimal-high x }
 
-pub decimal-length : (k x : ℕ) → x < 10 ^ suc k → length (decimal x) ≤ suc k
+pub decimal-length : (k x : ℕ) → x < 10 ^ suc k → length (inDecimal x) ≤ suc k
 decimal-length zero x l = omega (arith, ap length (decimal-low x l))
 decimal-length (suc k) x l =
     ⊎-elim (λ h. omega (arith, ap length (decimal-low x h)))
     (λ h. omega (
       arith,
       ap length (decimal-high x h),
-      length-append (decimal (x / 10)) (last x),
+      length-append (inDecimal (x / 10)) (last x),
       decimal-length k (x / 10) (omega (arith, pow-suc 10 (suc k))),
     )) (lt-or-le x 10)

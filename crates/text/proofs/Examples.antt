@@ -9,14 +9,14 @@ use Rattle.cube.specs.Calls.{badCell}
 use Rattle.cube.specs.Theorems.{digitOfVariable}
 use Rattle.cube.proofs.Positions.{positions}
 use Rattle.cube.proofs.Rows.{spells-digit}
-use Rattle.text.specs.Characters.{character}
+use Rattle.text.specs.Characters.{characterOf}
 use Rattle.text.specs.Input.{read, readRun}
 use Rattle.text.specs.Output.{decimalBy, listLines}
 use Rattle.text.specs.Theorems.{ShowsDigits, Examples}
 
 pub shows-digits : (n q : ℕ) → ShowsDigits n q
 shows-digits n q k v =
-    ap character (ap₂ digitOf (positions n .value q k v) (positions n .care q k v) ∙ spells-digit (digitOfVariable n k q) (omega arith))
+    ap characterOf (ap₂ digitOf (positions n .value q k v) (positions n .care q k v) ∙ spells-digit (digitOfVariable n k q) (omega arith))
 
 pub examples : Examples
 unfolding read readRun badCell some run listLines coverLiterals ones decimalBy

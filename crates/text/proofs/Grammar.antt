@@ -15,7 +15,7 @@ use Rattle.cube.specs.Calls.{badCell, Answer, refuses, gives}
 use Rattle.numbers.proofs.Bools.{and-l, and-r, holds}
 use Rattle.numbers.proofs.Below.{some-front}
 use Rattle.cube.proofs.Calls.{neither, refuses-gives, same-value}
-use Rattle.text.specs.Characters.{lineFeed, digitCharacter, character}
+use Rattle.text.specs.Characters.{lineFeed, digitCharacter, characterOf}
 use Rattle.text.specs.Input.{textOf, InForm, Table, notInForm, isDigit, widthOf, isCell, cellOf, isEnd, before, readRun, ofWidth, read}
 use Rattle.text.specs.Theorems.{Grammar}
 
@@ -39,36 +39,36 @@ module _ (c : ℕ) (cs : List ℕ) where
   meant-tail : badCell (c ∷ cs) ≡ false → badCell cs ≡ false
   meant-tail e = neither (ltb 2 c) (badCell cs) (sym bad-either ∙ e) .1
 
-cell-of-character : (c : ℕ) → c ≤ 2 → (cellOf (character c) ≡ c) × (eqb (character c) lineFeed ≡ false)
+cell-of-character : (c : ℕ) → c ≤ 2 → (cellOf (characterOf c) ≡ c) × (eqb (characterOf c) lineFeed ≡ false)
 cell-of-character zero l = (refl, refl)
 cell-of-character (suc zero) l = (refl, refl)
 cell-of-character (suc (suc zero)) l = (refl, refl)
 cell-of-character (suc (suc (suc c))) l = absurd (omega arith)
 
-character-of-cell : (b : ℕ) → isCell b ≡ true → character (cellOf b) ≡ b
+character-of-cell : (b : ℕ) → isCell b ≡ true → characterOf (cellOf b) ≡ b
 character-of-cell b = zero? (eqb b 48) refl
   where
-    dash? : (t : Bool) → eqb b 45 ≡ t → leb (cond t 2 3) 2 ≡ true → character (cond t 2 3) ≡ b
+    dash? : (t : Bool) → eqb b 45 ≡ t → leb (cond t 2 3) 2 ≡ true → characterOf (cond t 2 3) ≡ b
     dash? true e h = sym (eqb-true b 45 e)
     dash? false e h = absurd (subst T (sym h) tt)
 
-    one? : (t : Bool) → eqb b 49 ≡ t → leb (cond t 1 (cond (eqb b 45) 2 3)) 2 ≡ true → character (cond t 1 (cond (eqb b 45) 2 3)) ≡ b
+    one? : (t : Bool) → eqb b 49 ≡ t → leb (cond t 1 (cond (eqb b 45) 2 3)) 2 ≡ true → characterOf (cond t 1 (cond (eqb b 45) 2 3)) ≡ b
     one? true e h = sym (eqb-true b 49 e)
     one? false e h = dash? (eqb b 45) refl h
 
     zero? : (t : Bool) → eqb b 48 ≡ t → leb (cond t 0 (cond (eqb b 49) 1 (cond (eqb b 45) 2 3))) 2 ≡ true
-        → character (cond t 0 (cond (eqb b 49) 1 (cond (eqb b 45) 2 3))) ≡ b
+        → characterOf (cond t 0 (cond (eqb b 49) 1 (cond (eqb b 45) 2 3))) ≡ b
     zero? true e h = sym (eqb-true b 48 e)
     zero? false e h = one? (eqb b 49) refl h
 
 -- ---- a run
 
-run-read : (cells : List ℕ) → badCell cells ≡ false → readRun (map character cells ++ (lineFeed ∷ [])) ≡ gives cells
+run-read : (cells : List ℕ) → badCell cells ≡ false → readRun (map characterOf cells ++ (lineFeed ∷ [])) ≡ gives cells
 unfolding readRun
 run-read [] e = refl
 run-read (c ∷ cs) e =
     let l : c ≤ 2 = meant-head c cs e in
-    let rest : List ℕ = map character cs ++ (lineFeed ∷ []) in
+    let rest : List ℕ = map characterOf cs ++ (lineFeed ∷ []) in
     ap₂ (λ (feed : Bool) (x : ℕ). cond feed (cond (isEnd rest) (gives []) (refuses notInForm)) (cond (leb x 2) (before x (readRun rest)) (refuses notInForm)))
     (cell-of-character c l .1) (cell-of-character c l .0)
     ∙ ap₂ (λ (cell : Bool) (r : Answer (List ℕ)). cond cell (before c r) (refuses notInForm)) (le-leb c 2 l) (run-read cs (meant-tail c cs e))
@@ -76,7 +76,7 @@ run-read (c ∷ cs) e =
 -- the bytes bs are a run of these cells, a line feed and the end
 record Run (bs cells : List ℕ) : Type 0 where
   meant : badCell cells ≡ false
-  text : bs ≡ map character cells ++ (lineFeed ∷ [])
+  text : bs ≡ map characterOf cells ++ (lineFeed ∷ [])
 
 run-ends : (b : ℕ) (bs cells : List ℕ) → b ≡ lineFeed → cond (isEnd bs) (gives []) (refuses notInForm) ≡ gives cells → Run (b ∷ bs) cells
 run-ends b [] cells e h = subst (Run (b ∷ [])) (same-value [] cells h) (record { meant = meant-none; text = ap (λ (i : ℕ). i ∷ []) e })
@@ -115,7 +115,7 @@ reads-form : (n : ℕ) (cells : List ℕ) → n < 10 → badCell cells ≡ false
 unfolding read
 reads-form n cells l e =
     let width : widthOf (digitCharacter n) ≡ n = omega arith in
-    ap (λ (digit : Bool). cond (digit && true) (ofWidth (widthOf (digitCharacter n)) (readRun (map character cells ++ (lineFeed ∷ [])))) (refuses notInForm)) (digit-is n l)
+    ap (λ (digit : Bool). cond (digit && true) (ofWidth (widthOf (digitCharacter n)) (readRun (map characterOf cells ++ (lineFeed ∷ [])))) (refuses notInForm)) (digit-is n l)
     ∙ ap₂ ofWidth width (run-read cells e)
 
 module _ (d b : ℕ) (bs : List ℕ) (t : Table) where

@@ -13,9 +13,9 @@ use Rattle.cube.specs.Words.{Cover}
 use Rattle.cube.specs.Calls.{widest, badWidth, badLength, badCell, Condition, when, firstOf, tableConditions, Answer, refuses, gives}
 use Rattle.numbers.proofs.Bools.{lt-or-le}
 use Rattle.cube.proofs.Calls.{width-to, codes-most, first-holds, accepted}
-use Rattle.text.specs.Input.{Table, read, mostCells, keep, kept}
-use Rattle.text.specs.Output.{planned, printed}
-use Rattle.text.specs.Theorems.{Keeping, SameOutput}
+use Rattle.text.specs.Input.{Table, read}
+use Rattle.text.specs.Output.{tableText, printed, outputOf}
+use Rattle.text.specs.Steps.{mostCells, keep, keptOf, atStart, fed, closed}
 use Rattle.text.proofs.Stepping.{stepping}
 
 -- a table with more cells than the widest has is refused by its width, or else by its length
@@ -31,6 +31,12 @@ long-refused n t rest l = go (badWidth n) refl
     go true e = refl
     go false e = by-length e
 
+-- Plan, whose further conditions are the rest, refuses the cells that are kept exactly as it refuses the whole run; where the table is not refused,
+-- they are the whole run
+pub record Keeping (n : ℕ) (cells : List ℕ) : Type 0 where
+  pub refusal : (rest : List Condition) → firstOf (tableConditions n (keep cells) ++ rest) ≡ firstOf (tableConditions n cells ++ rest)
+  pub whole : firstOf (tableConditions n cells) ≡ 0 → keep cells ≡ cells
+
 pub keeping : (n : ℕ) (cells : List ℕ) → Keeping n cells
 keeping n cells = ⊎-elim long short (lt-or-le mostCells (length cells))
   where
@@ -45,9 +51,10 @@ keeping n cells = ⊎-elim long short (lt-or-le mostCells (length cells))
       whole = λ e. let a = accepted n cells e in absurd (omega (arith, a .cells, codes-most n (a .to)));
     }
 
-pub same-output : (input : List ℕ) (list : Cover) → SameOutput input list
-same-output input list = ap (λ (r : Answer Table). printed r list) (stepping input .whole) ∙ go (read input)
+-- what is printed for the cells that are kept is what is printed for the whole input
+pub same-output : (input : List ℕ) (list : Cover) → printed (closed (fed atStart input)) list ≡ outputOf input list
+same-output input list = ap (λ (r : Answer Table). printed r list) (stepping input) ∙ go (read input)
   where
-    go : (r : Answer Table) → printed (kept r) list ≡ printed r list
+    go : (r : Answer Table) → printed (keptOf r) list ≡ printed r list
     go (refuses k) = refl
-    go (gives t) = ap (λ (k : ℕ). planned k (t .width) list) (keeping (t .width) (t .cells) .refusal [])
+    go (gives t) = ap (λ (k : ℕ). tableText k (t .width) list) (keeping (t .width) (t .cells) .refusal [])

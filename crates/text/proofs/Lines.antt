@@ -1,36 +1,24 @@
 -- Texts put into a buffer one behind the other are one text; the lines of one row more; and how long the lines of a list are.
 -- Assumes nothing.
-use mathlib.Core.Path.{_≡_, refl, sym, ap, ap₂, _∙_, subst, subst₂}
+use mathlib.Core.Path.{_≡_, sym, ap, _∙_, subst, subst₂}
 use mathlib.Core.List.{List, [], _∷_, _++_, append-nil, append-assoc}
 use Prim.Native.Nat.{ℕ, _+_, _*_, _^_, _<_, _≤_}
-use native.Mathlib.Nat.{zero-add, add-zero}
+use native.Mathlib.Nat.{add-zero}
 use native.Mathlib.Omega.{arith}
-use lib.ListN.{length, length-append, set}
-use lib.Seq.{sets, length-sets, length-take-le}
+use lib.ListN.{length, length-append, take, set}
 use Rattle.numbers.specs.Below.{run}
 use Rattle.cube.specs.Words.{Row, Cover}
 use Rattle.cube.specs.Calls.{widest}
 use Rattle.numbers.proofs.Below.{run-length}
-use Rattle.numbers.proofs.Lent.{sets-append, sets-front}
+use Rattle.numbers.proofs.Fronts.{front-is, front-long}
+use Rattle.numbers.proofs.Lent.{puts-none, puts-append, puts-one, puts-long, front-count, front-places}
 use Rattle.text.specs.Characters.{bytes, lineFeed}
-use Rattle.text.specs.Output.{decimal, characterOfVariable, rowLine, listLines, totals, refused, mostDigits, mostOutput}
+use Rattle.text.specs.Output.{inDecimal, characterOfVariable, rowLine, listLines, totalsLine, refused, Prints}
+use Rattle.text.specs.Steps.{mostDigits, mostOutput}
 use Rattle.numbers.specs.Lent.{Puts}
-use Rattle.text.specs.Printing.{Prints}
 use Rattle.text.proofs.Decimals.{decimal-length}
 
 -- ---- one behind the other
-
-pub puts-none : (old : List ℕ) (at : ℕ) → Puts [] old at old at
-puts-none old at = record { behind = sym (add-zero at); places = refl }
-
-pub puts-append : {xs ys old mid new : List ℕ} {at middle next : ℕ} → Puts xs old at mid middle → Puts ys mid middle new next → Puts (xs ++ ys) old at new next
-puts-append {xs} {ys} {old} {at = at} p q = record {
-  behind = omega (arith, p .behind, q .behind, length-append xs ys);
-  places = q .places ∙ ap₂ (λ (l : List ℕ) (i : ℕ). sets l i ys) (p .places) (p .behind) ∙ sets-append old at xs ys;
-}
-
-pub puts-long : {xs old new : List ℕ} {at next : ℕ} → Puts xs old at new next → length new ≡ length old
-puts-long {xs} {old} {at = at} p = ap length (p .places) ∙ length-sets old at xs
 
 -- a loop that puts a text byte by byte, with i the bytes that are put
 pub puts-start : (old : List ℕ) (at : ℕ) → Puts [] old at old (at + 0)
@@ -40,7 +28,7 @@ pub puts-turn : {xs ys old new : List ℕ} {at : ℕ} (i x : ℕ) → ys ≡ xs 
     → Puts ys old at (set new (at + i) x) (at + (i + 1))
 puts-turn {old = old} {new} {at} i x e p =
     let next : at + i + 1 ≡ at + (i + 1) = omega arith in
-    subst₂ (λ (l : List ℕ) (k : ℕ). Puts l old at (set new (at + i) x) k) (sym e) next (puts-append p (record { behind = refl; places = refl }))
+    subst₂ (λ (l : List ℕ) (k : ℕ). Puts l old at (set new (at + i) x) k) (sym e) next (puts-append p (puts-one new (at + i) x))
 
 -- room for two texts is room for the first, and then for the second
 pub room-first : (xs ys old : List ℕ) (at : ℕ) → at + length (xs ++ ys) ≤ length old → at + length xs ≤ length old
@@ -55,9 +43,14 @@ room-last y p l = omega (arith, room-second (y ∷ []) p l)
 
 -- from the front
 pub puts-front : {text old new : List ℕ} {r : ℕ} → length text ≤ length old → Puts text old 0 new r → Prints text old new r
-puts-front {text} {old} {new} {r} l p =
-    let inside : r ≤ length new = omega (arith, p .behind, puts-long p) in
-    record { count = p .behind ∙ zero-add (length text); places = p .places ∙ sets-front text old l; inside = inside; front = sym (length-take-le r new inside) }
+puts-front l p = record { answer = front-count p; places = front-places p l }
+
+-- and what was put there can be lent on
+pub prints-text : {text old new : List ℕ} {r : ℕ} → Prints text old new r → take r new ≡ text
+prints-text {text} {old} p = front-is text old (p .answer) (p .places)
+
+pub prints-inside : {text old new : List ℕ} {r : ℕ} → Prints text old new r → r ≤ length new
+prints-inside {text} {old} p = front-long text old (p .answer) (p .places)
 
 -- ---- lines
 
@@ -77,24 +70,24 @@ lines-length n (r ∷ rs) l = omega (arith, length-append (rowLine n r) (listLin
 -- ---- how long the texts are
 
 -- 20 digits are enough for a number of 64 bits
-digits-few : (x : ℕ) → x < 2 ^ 64 → length (decimal x) ≤ mostDigits
+digits-few : (x : ℕ) → x < 2 ^ 64 → length (inDecimal x) ≤ mostDigits
 digits-few x l = decimal-length 19 x (omega arith)
 
-pub totals-length : (rows bits : ℕ) → rows < 2 ^ 64 → bits < 2 ^ 64 → length (totals rows bits) ≤ length (bytes "rows  bits ") + 2 * mostDigits + 1
+pub totals-length : (rows bits : ℕ) → rows < 2 ^ 64 → bits < 2 ^ 64 → length (totalsLine rows bits) ≤ length (bytes "rows  bits ") + 2 * mostDigits + 1
 totals-length rows bits l m =
-    let first : List ℕ = bytes "rows " ++ decimal rows in
-    let second : List ℕ = bytes " bits " ++ decimal bits in
+    let first : List ℕ = bytes "rows " ++ inDecimal rows in
+    let second : List ℕ = bytes " bits " ++ inDecimal bits in
     omega (
       arith,
       length-append (first ++ second) (lineFeed ∷ []),
       length-append first second,
-      length-append (bytes "rows ") (decimal rows),
-      length-append (bytes " bits ") (decimal bits),
+      length-append (bytes "rows ") (inDecimal rows),
+      length-append (bytes " bits ") (inDecimal bits),
       digits-few rows l,
       digits-few bits m,
     )
 
 pub refused-length : (k : ℕ) → k < 2 ^ 64 → length (refused k) ≤ mostOutput
 refused-length k l =
-    let text : List ℕ = bytes "refused " ++ decimal k in
-    omega (arith, length-append text (lineFeed ∷ []), length-append (bytes "refused ") (decimal k), digits-few k l)
+    let text : List ℕ = bytes "refused " ++ inDecimal k in
+    omega (arith, length-append text (lineFeed ∷ []), length-append (bytes "refused ") (inDecimal k), digits-few k l)

@@ -4,8 +4,7 @@ use mathlib.Core.List.{List, [], _∷_, _++_}
 use Prim.Native.Nat.{ℕ, _<_}
 use lib.ListN.{set}
 use lib.Seq.{drop-set-lt}
-use Rattle.text.specs.Input.{mostCells, State, stepped, fed}
-use Rattle.text.specs.Reading.{stateOf, Room, Takes}
+use Rattle.text.specs.Steps.{mostCells, State, stepped, fed, stateOf, Room, Takes}
 use Rattle.text.specs.declared.input.Reading.{Reading}
 use Rattle.text.proofs.Stepping.{fed-append}
 

@@ -1,6 +1,5 @@
--- Stepping over the bytes of a text: a piece and then the rest are the whole; a wrong byte stays wrong; and a reading that has met what the
--- definition asks at each byte says at the end what the definition says. The run goes by induction on the bytes left, with the cells before
--- them. Assumes nothing.
+-- Stepping over the bytes of a text: a piece and then the rest are the whole; a wrong byte stays wrong; and to step over all bytes and to close is to
+-- read the whole. The run goes by induction on the bytes left, with the cells before them. Assumes nothing.
 use mathlib.Core.Path.{_≡_, refl, sym, ap, _∙_}
 use mathlib.Core.Bool.{Bool, true, false, cond, _&&_}
 use mathlib.Core.List.{List, [], _∷_, _++_, append-nil}
@@ -8,18 +7,17 @@ use Prim.Native.Nat.{ℕ}
 use lib.Dec.{eqb}
 use lib.Seq.{append-snoc}
 use Rattle.cube.specs.Calls.{Answer, refuses, gives}
-use Rattle.cube.proofs.Calls.{refuses-gives}
 use Rattle.numbers.proofs.Fronts.{take-cut}
 use Rattle.text.specs.Characters.{lineFeed}
-use Rattle.text.specs.Input.{Table, notInForm, isDigit, widthOf, isCell, cellOf, isEnd, before, readRun, ofWidth, read, mostCells, keep, kept, State, atStart, afterDigit, inRun, atEnd, wrong, stepped, fed, closed}
-use Rattle.text.specs.Theorems.{Stepping}
+use Rattle.text.specs.Input.{notInForm, isDigit, widthOf, isCell, cellOf, isEnd, before, readRun, ofWidth, read}
+use Rattle.text.specs.Steps.{mostCells, keep, keptOf, State, atStart, afterDigit, inRun, atEnd, wrong, stepped, fed, closed}
 
 pub fed-append : (s : State) (xs ys : List ℕ) → fed s (xs ++ ys) ≡ fed (fed s xs) ys
 unfolding fed
 fed-append s [] ys = refl
 fed-append s (x ∷ xs) ys = fed-append (stepped s x) xs ys
 
-pub fed-wrong : (xs : List ℕ) → fed wrong xs ≡ wrong
+fed-wrong : (xs : List ℕ) → fed wrong xs ≡ wrong
 unfolding fed
 fed-wrong [] = refl
 fed-wrong (x ∷ xs) = fed-wrong xs
@@ -42,9 +40,9 @@ joined-one xs c (gives ys) = ap gives (append-snoc xs c ys)
 module _ (n : ℕ) where
   -- a run behind which the bytes bs stand, with the cells xs read
   abbrev Says : List ℕ → List ℕ → Type 0
-  Says xs bs = closed (fed (inRun n (keep xs)) bs) ≡ kept (ofWidth n (joined xs (readRun bs)))
+  Says xs bs = closed (fed (inRun n (keep xs)) bs) ≡ keptOf (ofWidth n (joined xs (readRun bs)))
 
-  ends : (xs bs : List ℕ) → closed (fed (atEnd n (keep xs)) bs) ≡ kept (ofWidth n (joined xs (cond (isEnd bs) (gives []) (refuses notInForm))))
+  ends : (xs bs : List ℕ) → closed (fed (atEnd n (keep xs)) bs) ≡ keptOf (ofWidth n (joined xs (cond (isEnd bs) (gives []) (refuses notInForm))))
   unfolding fed joined
   ends xs [] = ap (λ (l : List ℕ). gives (record { width = n; cells = keep l })) (sym (append-nil xs))
   ends xs (b ∷ bs) = ap closed (fed-wrong bs)
@@ -56,45 +54,30 @@ module _ (n : ℕ) where
     where
       go : (feed cell : Bool) → Says (xs ++ (cellOf b ∷ [])) bs
           → closed (fed (cond feed (atEnd n (keep xs)) (cond cell (inRun n (keep (keep xs ++ (cellOf b ∷ [])))) wrong)) bs)
-          ≡ kept (ofWidth n (joined xs (cond feed (cond (isEnd bs) (gives []) (refuses notInForm)) (cond cell (before (cellOf b) (readRun bs)) (refuses notInForm)))))
+          ≡ keptOf (ofWidth n (joined xs (cond feed (cond (isEnd bs) (gives []) (refuses notInForm)) (cond cell (before (cellOf b) (readRun bs)) (refuses notInForm)))))
       go true cell ih = ends xs bs
       go false true ih =
           ap (λ (l : List ℕ). closed (fed (inRun n l) bs)) (take-cut mostCells xs (cellOf b ∷ [])) ∙ ih
-          ∙ ap (λ (r : Answer (List ℕ)). kept (ofWidth n r)) (joined-one xs (cellOf b) (readRun bs))
+          ∙ ap (λ (r : Answer (List ℕ)). keptOf (ofWidth n r)) (joined-one xs (cellOf b) (readRun bs))
       go false false ih = ap closed (fed-wrong bs)
 
--- stepping over all bytes and closing is reading the whole, of whose cells `mostCells` at most are kept
-whole : (input : List ℕ) → closed (fed atStart input) ≡ kept (read input)
+-- "found over the whole input however long the run": `mostCells` of its cells at most are kept
+pub stepping : (input : List ℕ) → closed (fed atStart input) ≡ keptOf (read input)
 unfolding fed read
-whole [] = refl
-whole (d ∷ []) = go (isDigit d)
+stepping [] = refl
+stepping (d ∷ []) = go (isDigit d)
   where
     go : (digit : Bool) → closed (cond digit (afterDigit (widthOf d)) wrong) ≡ refuses notInForm
     go true = refl
     go false = refl
-whole (d ∷ b ∷ bs) = go (isDigit d)
+stepping (d ∷ b ∷ bs) = go (isDigit d)
   where
-    second : (feed : Bool) → closed (fed (cond feed (inRun (widthOf d) []) wrong) bs) ≡ kept (cond feed (ofWidth (widthOf d) (readRun bs)) (refuses notInForm))
-    second true = run-says (widthOf d) [] bs ∙ ap (λ (r : Answer (List ℕ)). kept (ofWidth (widthOf d) r)) (joined-none (readRun bs))
+    second : (feed : Bool) → closed (fed (cond feed (inRun (widthOf d) []) wrong) bs) ≡ keptOf (cond feed (ofWidth (widthOf d) (readRun bs)) (refuses notInForm))
+    second true = run-says (widthOf d) [] bs ∙ ap (λ (r : Answer (List ℕ)). keptOf (ofWidth (widthOf d) r)) (joined-none (readRun bs))
     second false = ap closed (fed-wrong bs)
 
     go : (digit : Bool)
         → closed (fed (stepped (cond digit (afterDigit (widthOf d)) wrong) b) bs)
-        ≡ kept (cond (digit && eqb b lineFeed) (ofWidth (widthOf d) (readRun bs)) (refuses notInForm))
+        ≡ keptOf (cond (digit && eqb b lineFeed) (ofWidth (widthOf d) (readRun bs)) (refuses notInForm))
     go true = second (eqb b lineFeed)
     go false = ap closed (fed-wrong bs)
-
--- what is kept of a refusal is the refusal
-refused-whole : (r : Answer Table) (k : ℕ) → kept r ≡ refuses k → r ≡ refuses k
-refused-whole (refuses j) k e = e
-refused-whole (gives t) k e = absurd (refuses-gives k _ (sym e))
-
-pub stepping : (input : List ℕ) → Stepping input
-stepping input = record {
-  whole = whole input;
-  pieces = pieces;
-  decided = λ first rest e h. refused-whole (read input) notInForm (sym (whole input) ∙ ap closed (pieces first rest e ∙ ap (λ (s : State). fed s rest) h ∙ fed-wrong rest));
-}
-  where
-    pieces : (first rest : List ℕ) → input ≡ first ++ rest → fed atStart input ≡ fed (fed atStart first) rest
-    pieces first rest e = ap (fed atStart) e ∙ fed-append atStart first rest

@@ -20,5 +20,5 @@ abbrev pub digitCharacter : ℕ → ℕ
 digitCharacter d = code "0" + d
 
 -- `0`, `1` and `-` of 0, 1 and 2. Of a cell: "`0` (barred), `1` (wanted) or `-` (free)". Of a digit of a row: a tested 0, a tested 1, "`-` for untested".
-abbrev pub character : ℕ → ℕ
-character d = cond (eqb d 2) (code "-") (digitCharacter d)
+abbrev pub characterOf : ℕ → ℕ
+characterOf d = cond (eqb d 2) (code "-") (digitCharacter d)

@@ -1,7 +1,6 @@
--- The characters; the grammar of the input, and what its functions promise; what is printed, and what its functions promise; the theorems.
+-- The characters, the grammar of the input, what is printed, and the theorems; and what the functions promise step by step.
 pub mod Characters
 pub mod Input
-pub mod Reading
 pub mod Output
-pub mod Printing
 pub mod Theorems
+pub mod Steps

@@ -8,12 +8,9 @@
 //
 // The buffer is working memory: nothing is refused before the text is closed, and a text that is not in form may have left cells in it.
 ghost use mathlib.Core.Path.{_≡_};
-ghost use mathlib.Core.List.{List, [], _∷_};
-ghost use Prim.Native.Nat.{ℕ, _≤_};
-ghost use lib.ListN.{length};
-ghost use Rattle.text.specs.Input.{mostCells};
-ghost use Rattle.text.specs.Input.{cellOf as cellOfByte};
-ghost use Rattle.text.specs.Reading.{Room, Takes, Closes};
+ghost use mathlib.Core.List.{[], _∷_};
+ghost use Rattle.text.specs.Input.{cellOf};
+ghost use Rattle.text.specs.Steps.{Room, Takes, LeadsTo, Closes};
 
 // One cell more than the widest table has.
 pub const MOST_CELLS: usize = 65;
@@ -34,7 +31,7 @@ pub enum Reading {
 
 // The first byte is a digit.
 fn digit(byte: u8) -> Reading
-    ensures { λ r. ⌜ ((cells : List ℕ) → mostCells ≤ length cells → Takes Reading.Start cells (byte ∷ []) r cells) ⌝ }
+    ensures { λ r. ⌜ LeadsTo Reading.Start byte r ⌝ }
 {
     if byte < b'0' {
         return Reading::Wrong;
@@ -47,7 +44,7 @@ fn digit(byte: u8) -> Reading
 
 // The second byte is a line feed.
 fn line_feed(n: usize, byte: u8) -> Reading
-    ensures { λ r. ⌜ ((cells : List ℕ) → mostCells ≤ length cells → Takes (Reading.Width n) cells (byte ∷ []) r cells) ⌝ }
+    ensures { λ r. ⌜ LeadsTo (Reading.Width n) byte r ⌝ }
 {
     if byte == b'\n' {
         return Reading::Run(n, 0);
@@ -57,7 +54,7 @@ fn line_feed(n: usize, byte: u8) -> Reading
 
 // The cell of a character, or 3, which is no cell.
 fn cell_of(byte: u8) -> u8
-    ensures { λ r. ⌜ r ≡ cellOfByte byte ⌝ }
+    ensures { λ r. ⌜ r ≡ cellOf byte ⌝ }
 {
     match byte {
         b'0' => 0,

@@ -1,16 +1,15 @@
 // The printed lines. Each function writes into a lent buffer from place `at` on and returns the place behind what it wrote.
 ghost use mathlib.Core.Path.{_≡_};
 ghost use mathlib.Core.List.{[], _∷_, _++_};
-ghost use Prim.Native.Nat.{_+_, _*_, _<_, _≤_};
+ghost use Prim.Native.Nat.{_+_, _<_, _≤_};
 ghost use lib.ListN.{length};
 ghost use Rattle.cube.specs.Words.{firstRows};
 ghost use Rattle.cube.specs.Theorems.{Variable};
 ghost use Rattle.cube.specs.Calls.{widest};
 ghost use Rattle.numbers.specs.Lent.{Puts};
 ghost use Rattle.text.specs.Characters.{lineFeed, digitCharacter};
-ghost use Rattle.text.specs.Output.{characterOfVariable, rowLine, listLines, listText, refused, mostOutput};
-ghost use Rattle.text.specs.Output.{decimal as inDecimal, totals as totalLine};
-ghost use Rattle.text.specs.Printing.{Printable, Prints};
+ghost use Rattle.text.specs.Output.{inDecimal, characterOfVariable, rowLine, listLines, totalsLine, refused, listText, Prints};
+ghost use Rattle.text.specs.Steps.{mostOutput, Printable};
 
 // The longest output: 64 lines of 7 bytes, and the last line with two numbers of 20 digits.
 pub const MOST_OUTPUT: usize = 500;
@@ -89,13 +88,13 @@ fn row(n: usize, value: u8, care: u8, out: &mut [u8], at: usize) -> usize
     line_feed(out, at + n)
 }
 
-// The lines of the first rows of two arrays.
-fn rows(n: usize, values: &[u8], cares: &[u8], count: usize, out: &mut [u8], at: usize) -> usize
-    requires { ⌜ (n ≤ widest) × (count ≤ length (now values)) × (count ≤ length (now cares))
-        × (at + (widest + 1) * count ≤ length (now out)) ⌝ }
-    ensures { λ r. ⌜ Puts (listLines n (firstRows count (now (values .entry)) (now (cares .entry)))) (now (out .entry)) at (now (out .exit)) r ⌝ }
+// The lines of the first rows of two arrays, from the front of the buffer on.
+fn rows(n: usize, values: &[u8], cares: &[u8], count: usize, out: &mut [u8]) -> usize
+    requires { ⌜ Printable n (now values) (now cares) count (now out) ⌝ }
+    ensures { λ r. ⌜ Puts (listLines n (firstRows count (now (values .entry)) (now (cares .entry))))
+        (now (out .entry)) 0 (now (out .exit)) r ⌝ }
 {
-    let mut place = at;
+    let mut place = 0;
     let mut i = 0;
     while i < count {
         place = row(n, values[i], cares[i], out, place);
@@ -106,8 +105,8 @@ fn rows(n: usize, values: &[u8], cares: &[u8], count: usize, out: &mut [u8], at:
 
 // The last line.
 fn totals(rows: usize, bits: usize, out: &mut [u8], at: usize) -> usize
-    requires { ⌜ at + length (totalLine rows bits) ≤ length (now out) ⌝ }
-    ensures { λ r. ⌜ Puts (totalLine rows bits) (now (out .entry)) at (now (out .exit)) r ⌝ }
+    requires { ⌜ at + length (totalsLine rows bits) ≤ length (now out) ⌝ }
+    ensures { λ r. ⌜ Puts (totalsLine rows bits) (now (out .entry)) at (now (out .exit)) r ⌝ }
 {
     let next = number(b"rows ", rows, out, at);
     let last = number(b" bits ", bits, out, next);
@@ -124,9 +123,10 @@ pub fn list(
     out: &mut [u8],
 ) -> usize
     requires { ⌜ Printable n (now values) (now cares) count (now out) ⌝ }
-    ensures { λ r. ⌜ Prints (listText n (firstRows count (now (values .entry)) (now (cares .entry))) count bits) (now (out .entry)) (now (out .exit)) r ⌝ }
+    ensures { λ r. ⌜ Prints (listText n (firstRows count (now (values .entry)) (now (cares .entry))) count bits)
+        (now (out .entry)) (now (out .exit)) r ⌝ }
 {
-    let at = rows(n, values, cares, count, out, 0);
+    let at = rows(n, values, cares, count, out);
     totals(count, bits, out, at)
 }
 

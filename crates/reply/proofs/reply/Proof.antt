@@ -4,7 +4,7 @@ use Prim.Native.Nat.{_≤_}
 use native.Mathlib.Nat.{le-trans}
 use borrow.Author.Needs.{needs}
 use borrow.Table.Elements.{length-take-le}
-use Rattle.text.specs.Reading.{cellsKept, textAnswer, tableCells}
+use Rattle.text.specs.Steps.{cellsKept, textAnswer, tableCells}
 use Rattle.text.specs.declared.input.Text.{Text}
 use Rattle.reply.proofs.Printed.{table-said, refusal-said}
 use Rattle.reply.proofs.reply.Statement.{statement}
@@ -20,7 +20,7 @@ slice-aggregate-table : tie.Need-slice-aggregate-table
 slice-aggregate-table c =
     let s = c .before .before .before .before .before .before .before in
     let closed = c .before .before .before .before .close .ensures in
-    sym (length-take-le _ _ (le-trans (subst (λ (x : Text). tableCells x ≤ cellsKept (s .args .reading)) (c .before .before .n .given .1) (closed .count)) (le-trans (s .pre .0 .most) (s .pre .0 .places))))
+    sym (length-take-le _ _ (le-trans (subst (λ (x : Text). tableCells x ≤ cellsKept (s .args .reading)) (c .before .before .n .given .1) (closed .few)) (le-trans (s .pre .0 .most) (s .pre .0 .places))))
 
 table-requires : tie.Need-table-requires
 table-requires c κs = search needs

@@ -3,7 +3,7 @@ use borrow.Author.Needs.{needs}
 use mathlib.Core.Path.{_≡_, refl, sym, _∙_}
 use native.Mathlib.Omega.{arith}
 use lib.ListN.{length}
-use Rattle.rows.specs.Rows.{ReadAll}
+use Rattle.rows.specs.Steps.{ReadAll}
 use Rattle.rows.proofs.Answers.{moved-bits}
 use Rattle.rows.proofs.Pieces.{read-none, read-wrong, read-more}
 use Rattle.rows.proofs.read_all.Statement.{statement}

@@ -4,8 +4,7 @@ use mathlib.Core.Path.{ap, _∙_}
 use Prim.Native.Nat.{ℕ}
 use native.Mathlib.Omega.{arith}
 use lib.ListN.{take}
-use Rattle.text.specs.Input.{fed}
-use Rattle.text.specs.Reading.{stateOf}
+use Rattle.text.specs.Steps.{fed, stateOf}
 use Rattle.rows.proofs.Answers.{bits-failed, bits-at-end, bits-came}
 use Rattle.rows.proofs.take_turn.Statement.{statement}
 use Rattle.rows.proofs.take_turn.Tie as tie

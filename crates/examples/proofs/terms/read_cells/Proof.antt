@@ -1,20 +1,18 @@
--- `examples::terms::read_cells` is safe and ends. Assumes nothing.
+-- `examples::terms::read_cells` is safe, ends, and counts cells of the buffer: a cell is written for each character, and the text fits. Assumes nothing.
 use borrow.Author.Needs.{needs}
-use native.Mathlib.Omega.{arith}
+use borrow.Table.Elements.{length-take-le}
+use mathlib.Core.Path.{_≡_, sym}
 use Prim.Native.Nat.{_-_, _≤_}
-use lib.ListN.{length, length-set}
-use mathlib.Core.Path.{_≡_}
+use native.Mathlib.Omega.{arith}
+use lib.ListN.{length}
 use Rattle.examples.proofs.terms.read_cells.Statement.{statement}
 use Rattle.examples.proofs.terms.read_cells.Tie as tie
 
 abbrev Inv-loop : tie.InvT-loop
-Inv-loop text cells₀ c₀ cells c = (c ≤ length text) × (length text ≤ length cells) × (length cells ≡ length cells₀)
+Inv-loop text cells₀ c₀ cells c = (c ≤ length text) × (length cells ≡ length cells₀)
 
 abbrev μ-loop : tie.MeasureT-loop
 μ-loop text cells₀ c₀ cells c = length text - c
-
-returns : tie.Need-returns Inv-loop μ-loop
-returns c = search needs
 
 loop-holds : tie.Need-loop-holds Inv-loop μ-loop
 loop-holds c = search needs
@@ -26,7 +24,7 @@ cell-of-requires : tie.Need-cell-of-requires Inv-loop μ-loop
 cell-of-requires c κs = search needs
 
 slice-write-cells : tie.Need-slice-write-cells Inv-loop μ-loop
-slice-write-cells c = omega arith
+slice-write-cells c = search needs
 
 add-c : tie.Need-add-c Inv-loop μ-loop
 add-c c = search needs
@@ -35,13 +33,13 @@ loop-less : tie.Need-loop-less Inv-loop μ-loop
 loop-less c = search needs
 
 loop-again : tie.Need-loop-again Inv-loop μ-loop
-loop-again c = (search needs, simp length-set (c .before .before .before .loop .inv .1), simp length-set (c .before .before .before .loop .inv .2))
+loop-again c = search needs
 
 same-length : tie.Need-same-length Inv-loop μ-loop
 same-length c = search needs
 
-returns-2 : tie.Need-returns-2 Inv-loop μ-loop
-returns-2 c = search needs
+returns : tie.Need-returns Inv-loop μ-loop
+returns c = (search needs, sym (length-take-le _ _ (omega arith)))
 
 pub read-cells-spec : {M : Type 1} → statement M
 read-cells-spec =
@@ -49,7 +47,6 @@ read-cells-spec =
     (tie.spec
     Inv-loop
     μ-loop
-    returns
     loop-holds
     shared-slice-read-cell-of
     cell-of-requires
@@ -58,4 +55,4 @@ read-cells-spec =
     loop-less
     loop-again
     same-length
-    returns-2)
+    returns)

@@ -1,7 +1,7 @@
--- `examples::terms::terms` is safe and ends. Assumes nothing.
+-- `examples::terms::terms` is safe and ends: the places are counted up to a number that was compared with their length. Assumes nothing.
 use borrow.Author.Needs.{needs}
-use native.Mathlib.Omega.{arith}
 use Prim.Native.Nat.{_-_, _≤_}
+use native.Mathlib.Omega.{arith}
 use lib.ListN.{length}
 use Rattle.examples.proofs.terms.terms.Statement.{statement}
 use Rattle.examples.proofs.terms.terms.Tie as tie
@@ -19,10 +19,10 @@ loop-holds : tie.Need-loop-holds Inv-loop μ-loop
 loop-holds c = search needs
 
 mul-term : tie.Need-mul-term Inv-loop μ-loop
-mul-term c = omega (arith, c .before .before .before .before .good)
+mul-term c = search needs
 
 shared-slice-read-term : tie.Need-shared-slice-read-term Inv-loop μ-loop
-shared-slice-read-term c = omega arith
+shared-slice-read-term c = search needs
 
 cast-term : tie.Need-cast-term Inv-loop μ-loop
 cast-term c = omega (arith, c .shared-slice-known2 .given (c .before .before .loop .i))
@@ -38,9 +38,6 @@ loop-less c = search needs
 
 loop-again : tie.Need-loop-again Inv-loop μ-loop
 loop-again c = search needs
-
-line-end-requires : tie.Need-line-end-requires Inv-loop μ-loop
-line-end-requires c κs = search needs
 
 returns-2 : tie.Need-returns-2 Inv-loop μ-loop
 returns-2 c = search needs
@@ -60,5 +57,4 @@ terms-spec =
     add-i
     loop-less
     loop-again
-    line-end-requires
     returns-2)

@@ -7,7 +7,7 @@ use types.Run.{OneOf, miss}
 use denote.Enum.Declared.{tagOf}
 use borrow.Author.Needs.{needs}
 use Rattle.text.specs.Input.{notInForm}
-use Rattle.text.specs.Reading.{Closes}
+use Rattle.text.specs.Steps.{Closes}
 use Rattle.text.specs.declared.input.Reading.{Reading}
 use Rattle.text.specs.declared.input.Reading.the-variants.{Start, Width, Run, End, Wrong}
 use Rattle.text.specs.declared.input.Text.the-variants.{Table, Refused}
@@ -16,14 +16,14 @@ use Rattle.text.proofs.input.close.Statement.{statement}
 use Rattle.text.proofs.input.close.Tie as tie
 
 at-end : (reading : Reading) (n count : ℕ) → reading ≡ End n count → Closes reading (Table n count)
-at-end reading n count e = subst⁻¹ (λ (r : Reading). Closes r (Table n count)) e (record { answer = λ cells. refl; count = omega arith })
+at-end reading n count e = subst⁻¹ (λ (r : Reading). Closes r (Table n count)) e (record { answer = λ cells. refl; few = omega arith })
 
 elsewhere : (reading : Reading) → OneOf (0 ∷ 1 ∷ 2 ∷ 4 ∷ []) (tagOf the-type reading) → Closes reading (Refused notInForm)
-elsewhere Start k = record { answer = λ cells. refl; count = omega arith }
-elsewhere (Width n) k = record { answer = λ cells. refl; count = omega arith }
-elsewhere (Run n count) k = record { answer = λ cells. refl; count = omega arith }
+elsewhere Start k = record { answer = λ cells. refl; few = omega arith }
+elsewhere (Width n) k = record { answer = λ cells. refl; few = omega arith }
+elsewhere (Run n count) k = record { answer = λ cells. refl; few = omega arith }
 elsewhere (End n count) k = absurd (miss (0 ∷ 1 ∷ 2 ∷ 4 ∷ []) 3 tt k)
-elsewhere Wrong k = record { answer = λ cells. refl; count = omega arith }
+elsewhere Wrong k = record { answer = λ cells. refl; few = omega arith }
 
 enum-known-reading : tie.Need-enum-known-reading
 enum-known-reading c = search needs

@@ -7,7 +7,7 @@ use lib.ListN.{length, getD, take}
 use lib.Seq.{take-all}
 use borrow.Author.Needs.{needs}
 use Rattle.numbers.proofs.Fronts.{take-more}
-use Rattle.text.specs.Reading.{Takes}
+use Rattle.text.specs.Steps.{Takes}
 use Rattle.text.specs.declared.input.Reading.{Reading}
 use Rattle.text.proofs.Readings.{takes-none, takes-more}
 use Rattle.text.proofs.input.feed.Statement.{statement}

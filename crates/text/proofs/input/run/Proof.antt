@@ -12,8 +12,8 @@ use lib.Seq.{length-take-le, take-all, take-append-le, take-suc-set}
 use borrow.Author.Needs.{needs}
 use borrow.Author.Tests.{eq-eqb, ne-eqb, le-leb, lt-leb}
 use Rattle.text.specs.Characters.{lineFeed}
-use Rattle.text.specs.Input.{cellOf, isCell, mostCells, keep, State, inRun, atEnd, wrong, stepped}
-use Rattle.text.specs.Reading.{Room, Takes}
+use Rattle.text.specs.Input.{cellOf, isCell}
+use Rattle.text.specs.Steps.{mostCells, keep, State, inRun, atEnd, wrong, stepped, Room, Takes}
 use Rattle.text.specs.declared.input.Reading.{Reading}
 use Rattle.text.specs.declared.input.Reading.the-variants.{Run, End, Wrong}
 use Rattle.text.proofs.Readings.{takes-one, takes-cell}

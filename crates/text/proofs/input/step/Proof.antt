@@ -4,7 +4,7 @@ use mathlib.Core.List.{List, [], _∷_}
 use Prim.Native.Nat.{ℕ}
 use native.Mathlib.Omega.{arith}
 use borrow.Author.Needs.{needs}
-use Rattle.text.specs.Reading.{Room, Takes}
+use Rattle.text.specs.Steps.{Room, Takes}
 use Rattle.text.specs.declared.input.Reading.{Reading}
 use Rattle.text.specs.declared.input.Reading.the-variants.{End, Wrong}
 use Rattle.text.proofs.Readings.{takes-one}

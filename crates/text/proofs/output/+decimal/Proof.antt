@@ -8,10 +8,10 @@ use lib.ListN.{length, length-append}
 use borrow.Fn.Kinds.{In}
 use borrow.Fn.PlainCycle.{Measures, is, falls, and}
 use Rattle.text.specs.Characters.{digitCharacter}
-use Rattle.text.specs.Output.{decimal}
+use Rattle.text.specs.Output.{inDecimal}
 use Rattle.numbers.specs.Lent.{Puts}
 use Rattle.text.proofs.Decimals.{decimals}
-use Rattle.text.proofs.Lines.{puts-append, puts-long}
+use Rattle.numbers.proofs.Lent.{puts-append, puts-long}
 use Rattle.text.proofs.output.decimal.Reads as reads
 use Rattle.text.proofs.output.decimal.Kinds as kinds
 use Rattle.text.proofs.output.+decimal.Lts-decimal as lts
@@ -33,26 +33,26 @@ claims t = (digit.Asked, digit.Learnt, below t, reads.Post)
 
 -- ---- the two ways on plain values: d is the buffer, p the place
 
-module _ (x p : ℕ) (d : List ℕ) (room : p + length (decimal x) ≤ length d) where
+module _ (x p : ℕ) (d : List ℕ) (room : p + length (inDecimal x) ≤ length d) where
   module _ (l : x < 10) where
     low-room : p < length d
     low-room = omega (arith, ap length (decimals x .low l))
 
-    low-puts : (e : List ℕ) (r : ℕ) → Puts (digitCharacter x ∷ []) d p e r → Puts (decimal x) d p e r
+    low-puts : (e : List ℕ) (r : ℕ) → Puts (digitCharacter x ∷ []) d p e r → Puts (inDecimal x) d p e r
     low-puts e r h = subst⁻¹ (λ (xs : List ℕ). Puts xs d p e r) (decimals x .low l) h
 
   module _ (l : 10 ≤ x) where
-    high-long : length (decimal x) ≡ length (decimal (x / 10)) + 1
-    high-long = ap length (decimals x .high l) ∙ length-append (decimal (x / 10)) (digitCharacter (x % 10) ∷ [])
+    high-long : length (inDecimal x) ≡ length (inDecimal (x / 10)) + 1
+    high-long = ap length (decimals x .high l) ∙ length-append (inDecimal (x / 10)) (digitCharacter (x % 10) ∷ [])
 
-    high-room : p + length (decimal (x / 10)) ≤ length d
+    high-room : p + length (inDecimal (x / 10)) ≤ length d
     high-room = omega (arith, high-long)
 
-    module _ (e : List ℕ) (m : ℕ) (h : Puts (decimal (x / 10)) d p e m) where
+    module _ (e : List ℕ) (m : ℕ) (h : Puts (inDecimal (x / 10)) d p e m) where
       last-room : m < length e
       last-room = omega (arith, high-long, h .behind, puts-long h)
 
-      high-puts : (f : List ℕ) (r : ℕ) → Puts (digitCharacter (x % 10) ∷ []) e m f r → Puts (decimal x) d p f r
+      high-puts : (f : List ℕ) (r : ℕ) → Puts (digitCharacter (x % 10) ∷ []) e m f r → Puts (inDecimal x) d p f r
       high-puts f r g = subst⁻¹ (λ (xs : List ℕ). Puts xs d p f r) (decimals x .high l) (puts-append h g)
 
 -- ---- the needs

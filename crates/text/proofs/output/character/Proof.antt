@@ -7,7 +7,7 @@ use lib.Pow.{pow-pos}
 use borrow.Author.Needs.{needs}
 use borrow.Author.Tests.{eq-eqb, ne-eqb}
 use Rattle.cube.specs.Theorems.{bitOfVariable}
-use Rattle.text.specs.Characters.{digitCharacter, character}
+use Rattle.text.specs.Characters.{digitCharacter, characterOf}
 use Rattle.text.specs.Output.{characterOfVariable}
 use Rattle.text.proofs.output.character.Statement.{statement}
 use Rattle.text.proofs.output.character.Tie as tie
@@ -24,14 +24,14 @@ module _ (n k w : ℕ) (w-is : w ≡ 2 ^ (n - k)) where
     printed = characterOfVariable n (record { value = value; care = care }) k
 
     untested : care / w % 2 ≡ 0 → 45 ≡ printed
-    untested e = ap (λ (b : Bool). character (cond b 2 (bitOfVariable n k value))) (sym (eq-eqb (bitOfVariable n k care) 0 (sym (bit-is care) ∙ e)))
+    untested e = ap (λ (b : Bool). characterOf (cond b 2 (bitOfVariable n k value))) (sym (eq-eqb (bitOfVariable n k care) 0 (sym (bit-is care) ∙ e)))
 
     tested : (care / w % 2 ≡ 0 → ⊥) → 48 + value / w % 2 ≡ printed
     tested h =
         let small : bitOfVariable n k value ≡ 2 → ⊥ = λ e. omega arith in
         ap digitCharacter (bit-is value)
         ∙ ap (λ (b : Bool). cond b 45 (digitCharacter (bitOfVariable n k value))) (sym (ne-eqb (bitOfVariable n k value) 2 small))
-        ∙ ap (λ (b : Bool). character (cond b 2 (bitOfVariable n k value))) (sym (ne-eqb (bitOfVariable n k care) 0 (λ e. h (bit-is care ∙ e))))
+        ∙ ap (λ (b : Bool). characterOf (cond b 2 (bitOfVariable n k value))) (sym (ne-eqb (bitOfVariable n k care) 0 (λ e. h (bit-is care ∙ e))))
 
 sub-codes : tie.Need-sub-codes
 sub-codes c = search needs

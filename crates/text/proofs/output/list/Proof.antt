@@ -6,8 +6,9 @@ use lib.ListN.{length, length-append}
 use borrow.Author.Needs.{needs}
 use Rattle.cube.specs.Words.{firstRows}
 use Rattle.cube.proofs.Lists.{rows-first}
-use Rattle.text.specs.Output.{listLines, totals}
-use Rattle.text.proofs.Lines.{puts-append, puts-front, room-second, lines-length, totals-length}
+use Rattle.text.specs.Output.{listLines, totalsLine}
+use Rattle.numbers.proofs.Lent.{puts-append}
+use Rattle.text.proofs.Lines.{puts-front, room-second, lines-length, totals-length}
 use Rattle.text.proofs.output.list.Statement.{statement}
 use Rattle.text.proofs.output.list.Tie as tie
 
@@ -15,13 +16,13 @@ use Rattle.text.proofs.output.list.Tie as tie
 abbrev given : tie.Start → List ℕ
 given c = listLines (c .args .n) (firstRows (c .args .count) (c .args .values .now) (c .args .cares .now))
 
-room : (c : tie.Start) → length (given c ++ totals (c .args .count) (c .args .bits)) ≤ length (c .args .out .now)
+room : (c : tie.Start) → length (given c ++ totalsLine (c .args .count) (c .args .bits)) ≤ length (c .args .out .now)
 room c =
     let a = c .args in
     let h = c .pre in
     omega (
       arith,
-      length-append (given c) (totals (a .count) (a .bits)),
+      length-append (given c) (totalsLine (a .count) (a .bits)),
       lines-length (a .n) (firstRows (a .count) (a .values .now) (a .cares .now)) (h .width),
       rows-first (a .count) (a .values .now) (a .cares .now) (h .values-long) (h .cares-long),
       totals-length (a .count) (a .bits) (omega arith) (omega arith),
@@ -29,7 +30,7 @@ room c =
       h .room,
     )
 
-from-front : (c : tie.Start) → 0 + length (given c ++ totals (c .args .count) (c .args .bits)) ≤ length (c .args .out .now)
+from-front : (c : tie.Start) → 0 + length (given c ++ totalsLine (c .args .count) (c .args .bits)) ≤ length (c .args .out .now)
 from-front c = omega (arith, room c)
 
 rows-requires : tie.Need-rows-requires
@@ -38,7 +39,7 @@ rows-requires c κs = search needs
 totals-requires : tie.Need-totals-requires
 totals-requires c κs =
     let s = c .before .before .before .before .before .before .before .before in
-    room-second {xs = given s} (totals (s .args .count) (s .args .bits)) (c .before .before .before .rows .ensures) (from-front s)
+    room-second {xs = given s} (totalsLine (s .args .count) (s .args .bits)) (c .before .before .before .rows .ensures) (from-front s)
 
 same-length : tie.Need-same-length
 same-length c = search needs

@@ -1,17 +1,18 @@
 -- `text::output::number` meets its contract: a text and then another. Assumes nothing.
 use borrow.Author.Needs.{needs}
-use Rattle.text.specs.Output.{decimal}
-use Rattle.text.proofs.Lines.{puts-append, room-first, room-second}
+use Rattle.text.specs.Output.{inDecimal}
+use Rattle.numbers.proofs.Lent.{puts-append}
+use Rattle.text.proofs.Lines.{room-first, room-second}
 use Rattle.text.proofs.output.number.Statement.{statement}
 use Rattle.text.proofs.output.number.Tie as tie
 
 word-requires : tie.Need-word-requires
-word-requires c κs = let s = c .before .before .before in room-first (s .args .text .now) (decimal (s .args .x)) (s .args .out .now) (s .args .at) (s .pre)
+word-requires c κs = let s = c .before .before .before in room-first (s .args .text .now) (inDecimal (s .args .x)) (s .args .out .now) (s .args .at) (s .pre)
 
 decimal-requires : tie.Need-decimal-requires
 decimal-requires c κs =
     let s = c .before .before .before .before .before .before .before in
-    room-second (decimal (s .args .x)) (c .before .before .before .word .ensures) (s .pre)
+    room-second (inDecimal (s .args .x)) (c .before .before .before .word .ensures) (s .pre)
 
 same-length : tie.Need-same-length
 same-length c = search needs

@@ -5,8 +5,9 @@ use native.Mathlib.Omega.{arith}
 use lib.ListN.{length}
 use borrow.Author.Needs.{needs}
 use Rattle.text.specs.Characters.{bytes, lineFeed}
-use Rattle.text.specs.Output.{decimal, refused}
-use Rattle.text.proofs.Lines.{puts-append, puts-front, room-first, room-last, refused-length}
+use Rattle.text.specs.Output.{inDecimal, refused}
+use Rattle.numbers.proofs.Lent.{puts-append}
+use Rattle.text.proofs.Lines.{puts-front, room-first, room-last, refused-length}
 use Rattle.text.proofs.output.refusal.Statement.{statement}
 use Rattle.text.proofs.output.refusal.Tie as tie
 
@@ -22,7 +23,7 @@ slice-aggregate-number c = search needs
 number-requires : tie.Need-number-requires
 number-requires c κs =
     let s = c .before .before .before in
-    room-first (bytes "refused " ++ decimal (s .args .k)) (lineFeed ∷ []) (s .args .out .now) 0 (from-front s)
+    room-first (bytes "refused " ++ inDecimal (s .args .k)) (lineFeed ∷ []) (s .args .out .now) 0 (from-front s)
 
 line-feed-requires : tie.Need-line-feed-requires
 line-feed-requires c κs = room-last lineFeed (c .before .before .before .number .ensures) (from-front (c .before .before .before .before .before .before .before))

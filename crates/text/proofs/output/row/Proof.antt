@@ -11,7 +11,8 @@ use Rattle.cube.specs.Calls.{widest}
 use Rattle.numbers.proofs.Below.{run-more}
 use Rattle.text.specs.Output.{characterOfVariable}
 use Rattle.numbers.specs.Lent.{Puts}
-use Rattle.text.proofs.Lines.{puts-start, puts-turn, puts-append, puts-long}
+use Rattle.numbers.proofs.Lent.{puts-append, puts-long}
+use Rattle.text.proofs.Lines.{puts-start, puts-turn}
 use Rattle.text.proofs.output.row.Statement.{statement}
 use Rattle.text.proofs.output.row.Tie as tie
 

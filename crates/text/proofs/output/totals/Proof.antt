@@ -3,16 +3,17 @@ use mathlib.Core.List.{List, [], _∷_, _++_}
 use Prim.Native.Nat.{ℕ}
 use borrow.Author.Needs.{needs}
 use Rattle.text.specs.Characters.{bytes, lineFeed}
-use Rattle.text.specs.Output.{decimal}
-use Rattle.text.proofs.Lines.{puts-append, room-first, room-second, room-last}
+use Rattle.text.specs.Output.{inDecimal}
+use Rattle.numbers.proofs.Lent.{puts-append}
+use Rattle.text.proofs.Lines.{room-first, room-second, room-last}
 use Rattle.text.proofs.output.totals.Statement.{statement}
 use Rattle.text.proofs.output.totals.Tie as tie
 
 abbrev first : ℕ → List ℕ
-first rows = bytes "rows " ++ decimal rows
+first rows = bytes "rows " ++ inDecimal rows
 
 abbrev second : ℕ → List ℕ
-second bits = bytes " bits " ++ decimal bits
+second bits = bytes " bits " ++ inDecimal bits
 
 slice-aggregate-number : tie.Need-slice-aggregate-number
 slice-aggregate-number c = search needs

@@ -8,7 +8,8 @@ use lib.Seq.{take-all}
 use borrow.Author.Needs.{needs}
 use Rattle.numbers.proofs.Fronts.{take-more}
 use Rattle.numbers.specs.Lent.{Puts}
-use Rattle.text.proofs.Lines.{puts-start, puts-turn, puts-long}
+use Rattle.numbers.proofs.Lent.{puts-long}
+use Rattle.text.proofs.Lines.{puts-start, puts-turn}
 use Rattle.text.proofs.output.word.Statement.{statement}
 use Rattle.text.proofs.output.word.Tie as tie
 
