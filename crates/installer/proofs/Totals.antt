@@ -14,7 +14,8 @@ use Rattle.plan.specs.declared.Planned.{Planned}
 use Rattle.plan.specs.declared.Planned.the-variants.{Rows, Refused}
 use Rattle.plan.proofs.Refusals.{plannable}
 use Rattle.plan.proofs.Answers.{not-refused, rows-is, bits-is, accepted-refused, refused-by}
-use Rattle.installer.specs.Numbers.{planNumber, readPlan, FewTotals}
+use Rattle.installer.specs.Numbers.{planNumber, readPlan}
+use Rattle.installer.specs.Steps.{FewTotals}
 
 pub few-totals : (n : ℕ) (t values cares values′ cares′ : List ℕ) (r : Planned) → Plans n t values cares values′ cares′ r → FewTotals r
 few-totals n t values cares values′ cares′ (Refused k) p = tt
