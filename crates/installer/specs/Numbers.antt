@@ -43,10 +43,10 @@ abbrev pub readSpell : ℤ → ℕ → ℕ → Answer Row
 readSpell (pos k) value care = gives (record { value = value; care = care })
 readSpell (negsuc k) value care = refuses (suc k)
 
--- "A refusal [..] changes no lent byte": the row in the two lent bytes afterwards, which held the row `old`
-abbrev pub bytesAfter : Answer Row → Row → Row
-bytesAfter (gives row) old = row
-bytesAfter (refuses k) old = old
+-- "A refusal [..] changes no lent byte": a lent byte afterwards, into which this part of the row goes
+abbrev pub byteAfter : (Row → ℕ) → Answer Row → ℕ → ℕ
+byteAfter part (gives row) old = part row
+byteAfter part (refuses k) old = old
 
 -- "10,000 × rows + tested bits"
 abbrev pub planNumber : Answer Totals → ℤ
@@ -76,11 +76,11 @@ abbrev pub CheckRead : ℕ → List ℕ → List ℕ → List ℕ → Type 0
 CheckRead n t vs ws = readCheck (checkNumber (checkOf n t vs ws)) ≡ checkOf n t vs ws
 
 -- What rows_spell promises: the number of Spell's answer, the two lent bytes, and that the answer is read off the three.
-pub record SpellsForC (n q value care value′ care′ : ℕ) (r : ℤ) : Type 0 where
-  pub number : r ≡ spellNumber (spellOf n q)
-  pub value-is : value′ ≡ bytesAfter (spellOf n q) (record { value = value; care = care }) .value
-  pub care-is : care′ ≡ bytesAfter (spellOf n q) (record { value = value; care = care }) .care
-  pub read : readSpell r value′ care′ ≡ spellOf n q
+pub record SpellsForC (answer : Answer Row) (value care value′ care′ : ℕ) (r : ℤ) : Type 0 where
+  pub number : r ≡ spellNumber answer
+  pub value-is : value′ ≡ byteAfter (λ row. row .value) answer value
+  pub care-is : care′ ≡ byteAfter (λ row. row .care) answer care
+  pub read : readSpell r value′ care′ ≡ answer
 
 -- What a call that writes a list promises to C: what it promises anyway, of an answer whose number is returned, and which is read off the number again.
 pub record ListsForC {A : Type 0} (refusal : ℕ) (list old new : List A) (r : ℤ) : Type 0 where

@@ -16,7 +16,7 @@ ghost use Rattle.primes.specs.Primes.{primesRefuses};
 ghost use Rattle.plan.specs.Plan.{planAnswer};
 ghost use Rattle.checking.specs.Check.{checkAnswer, checkOf};
 ghost use Rattle.listfile.specs.Write.{fileOf, writeRefuses};
-ghost use Rattle.installer.specs.Numbers.{minus, countNumber, planNumber, checkNumber, SpellsForC, ListsForC, PlansForC};
+ghost use Rattle.installer.specs.Numbers.{minus, spellOf, countNumber, planNumber, checkNumber, SpellsForC, ListsForC, PlansForC};
 ghost use Rattle.installer.specs.Steps.{FewCounted, FewTotals};
 
 // Minus the number of a refusal.
@@ -63,7 +63,7 @@ fn check_number(answer: Checked) -> i32
 // Spell for C: 0, with value and care of the cube in the two lent bytes, or minus the number of the refusal.
 #[no_mangle]
 pub extern "C" fn rows_spell(n: usize, cube: usize, value: &mut u8, care: &mut u8) -> i32
-    ensures { λ r. ⌜ SpellsForC n cube (now (value .entry)) (now (care .entry)) (now (value .exit)) (now (care .exit)) r ⌝ }
+    ensures { λ r. ⌜ SpellsForC (spellOf n cube) (now (value .entry)) (now (care .entry)) (now (value .exit)) (now (care .exit)) r ⌝ }
 {
     match spelling::spell(n, cube) {
         Spelled::Row(spelled_value, spelled_care) => {
