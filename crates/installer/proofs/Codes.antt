@@ -1,4 +1,4 @@
--- Check's answer is read off its number: the codes that it names are below 64, so that of a missed code is below 257. Assumes nothing.
+-- Check's answer is read off its number: the codes that it names are below 256, so the number of a missed code is below 257. Assumes nothing.
 use mathlib.Core.Path.{_≡_, refl, sym, ap, _∙_}
 use mathlib.Core.Bool.{Bool, cond}
 use mathlib.Core.List.{List}

@@ -17,7 +17,7 @@ use Rattle.cells.specs.Cells.{cellsRefuses}
 use Rattle.primes.specs.Primes.{primesRefuses}
 use Rattle.listfile.specs.Write.{fileOf, fileLength, writeRefuses}
 use Rattle.listfile.proofs.Theorems.{file-length}
-use Rattle.installer.specs.Numbers.{countNumber, readCount, ListsForC}
+use Rattle.installer.specs.Numbers.{countNumber, readCount, ListedForC}
 use Rattle.installer.specs.Steps.{FewCounted}
 use Rattle.installer.proofs.Widths.{width-of, none-behind, none-in-front}
 
@@ -55,5 +55,5 @@ module _ {A : Type 0} {refusal : ℕ} {list old new : List A} where
   read-back (Refused zero) p = let r = answered-refuses 0 refusal (length list) (p .answer) in absurd (r .1 (r .0))
   read-back (Refused (suc k)) p = refl
 
-  pub lists-for-c : (a : Counted) (r : ℤ) → Listed refusal list old new a → r ≡ countNumber (countAnswer a) → ListsForC refusal list old new r
-  lists-for-c a r p number = record { counted = a; lists = p; number = number; read = ap readCount number ∙ read-back a p }
+  pub listed-for-c : (a : Counted) (r : ℤ) → Listed refusal list old new a → r ≡ countNumber (countAnswer a) → ListedForC refusal list old new r
+  listed-for-c a r p number = record { counted = a; listed = p; number = number; read = ap readCount number ∙ read-back a p }

@@ -8,6 +8,7 @@ use native.Mathlib.Omega.{arith}
 use Rattle.cube.specs.Calls.{widest, badWidth, Condition, firstOf}
 use Rattle.cube.proofs.Calls.{width-to, conditions-refuse}
 
+-- what a call refuses with: 1 for a bad width, else what the conditions behind give
 module _ (n behind : ℕ) (e : cond (badWidth n) 1 behind ≡ 0) where
   good-width : badWidth n ≡ false
   good-width = go (badWidth n) e

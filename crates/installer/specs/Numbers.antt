@@ -1,5 +1,5 @@
 -- "For the installer, which is in C: [..] Plan's C answer is 10,000 × rows + tested bits; Check's is 0 right, 1 + code missed, 257 + code stray; both
--- answer minus the number when they refuse." The other calls answer as these two do: Spell 0, and each call that writes a list its count.
+-- answer minus the number when they refuse." The other calls answer in the same way: Spell 0, and each call that writes a list its count.
 -- Assumes nothing.
 use mathlib.Core.Path.{_≡_}
 use mathlib.Core.Bool.{cond}
@@ -19,7 +19,7 @@ use Rattle.checking.specs.Check.{Verdict, right, missed, stray, checkOf}
 abbrev pub minus : ℕ → ℤ
 minus k = negℤ (pos k)
 
--- "the answer is their count"
+-- "the answer is their count": of codes, primes, chart rows, essential primes and bytes alike
 abbrev pub countNumber : Answer ℕ → ℤ
 countNumber (gives k) = pos k
 countNumber (refuses k) = minus k
@@ -33,12 +33,12 @@ readCount (negsuc k) = refuses (suc k)
 abbrev pub spellOf : ℕ → ℕ → Answer Row
 spellOf n q = answered (spellRefuses n q) (rowOf n q)
 
--- 0, since value and care stand in the lent bytes
+-- 0 for a row, whose value and care stand in the lent bytes
 abbrev pub spellNumber : Answer Row → ℤ
 spellNumber (gives row) = pos 0
 spellNumber (refuses k) = minus k
 
--- how the answer is read off the number and the two bytes
+-- how the answer is read off the number and the two bytes: they are the row, unless the number is below 0
 abbrev pub readSpell : ℤ → ℕ → ℕ → Answer Row
 readSpell (pos k) value care = gives (record { value = value; care = care })
 readSpell (negsuc k) value care = refuses (suc k)
@@ -71,7 +71,7 @@ readCheck (pos zero) = gives right
 readCheck (pos (suc k)) = cond (ltb k 256) (gives (missed k)) (gives (stray (k - 256)))
 readCheck (negsuc k) = refuses (suc k)
 
--- what rows_check returns tells its answer, whatever the call: codes are below 64
+-- what rows_check returns tells its answer, whatever the call: codes are below 256
 abbrev pub CheckRead : ℕ → List ℕ → List ℕ → List ℕ → Type 0
 CheckRead n t vs ws = readCheck (checkNumber (checkOf n t vs ws)) ≡ checkOf n t vs ws
 
@@ -82,10 +82,11 @@ pub record SpellsForC (answer : Answer Row) (value care value′ care′ : ℕ) 
   pub care-is : care′ ≡ byteAfter (λ row. row .care) answer care
   pub read : readSpell r value′ care′ ≡ answer
 
--- What a call that writes a list promises to C: what it promises anyway, of an answer whose number is returned, and which is read off the number again.
-pub record ListsForC {A : Type 0} (refusal : ℕ) (list old new : List A) (r : ℤ) : Type 0 where
+-- What a call that writes a list promises to C: what it promises in Rattle, of an answer whose number is returned, and which is read off the number
+-- again.
+pub record ListedForC {A : Type 0} (refusal : ℕ) (list old new : List A) (r : ℤ) : Type 0 where
   pub counted : Counted
-  pub lists : Listed refusal list old new counted
+  pub listed : Listed refusal list old new counted
   pub number : r ≡ countNumber (countAnswer counted)
   pub read : readCount r ≡ countAnswer counted
 

@@ -16,7 +16,7 @@ ghost use Rattle.primes.specs.Primes.{primesRefuses};
 ghost use Rattle.plan.specs.Plan.{planAnswer};
 ghost use Rattle.checking.specs.Check.{checkAnswer, checkOf};
 ghost use Rattle.listfile.specs.Write.{fileOf, writeRefuses};
-ghost use Rattle.installer.specs.Numbers.{minus, spellOf, countNumber, planNumber, checkNumber, SpellsForC, ListsForC, PlansForC};
+ghost use Rattle.installer.specs.Numbers.{minus, spellOf, countNumber, planNumber, checkNumber, SpellsForC, ListedForC, PlansForC};
 ghost use Rattle.installer.specs.Steps.{FewCounted, FewTotals};
 
 // Minus the number of a refusal.
@@ -78,7 +78,7 @@ pub extern "C" fn rows_spell(n: usize, cube: usize, value: &mut u8, care: &mut u
 // Cells for C: how many codes the cube matches, which stand in the first bytes, or minus the number of the refusal.
 #[no_mangle]
 pub extern "C" fn rows_cells(n: usize, cube: usize, codes: &mut [u8]) -> i32
-    ensures { λ r. ⌜ ListsForC (cellsRefuses n cube (length (now (codes .entry)))) (codesOf n cube) (now (codes .entry)) (now (codes .exit)) r ⌝ }
+    ensures { λ r. ⌜ ListedForC (cellsRefuses n cube (length (now (codes .entry)))) (codesOf n cube) (now (codes .entry)) (now (codes .exit)) r ⌝ }
 {
     count_number(cells::cells(n, cube, codes))
 }
@@ -86,7 +86,7 @@ pub extern "C" fn rows_cells(n: usize, cube: usize, codes: &mut [u8]) -> i32
 // Primes for C: how many primes there are, which stand in the first places, or minus the number of the refusal.
 #[no_mangle]
 pub extern "C" fn rows_primes(n: usize, table: &[u8], cubes: &mut [u16]) -> i32
-    ensures { λ r. ⌜ ListsForC (primesRefuses n (now (table .entry)) (length (now (cubes .entry)))) (primesOf n (now (table .entry)))
+    ensures { λ r. ⌜ ListedForC (primesRefuses n (now (table .entry)) (length (now (cubes .entry)))) (primesOf n (now (table .entry)))
         (now (cubes .entry)) (now (cubes .exit)) r ⌝ }
 {
     count_number(primes::primes(n, table, cubes))
@@ -95,7 +95,7 @@ pub extern "C" fn rows_primes(n: usize, table: &[u8], cubes: &mut [u16]) -> i32
 // Essentials for C: how many essential primes there are, which stand in the first places, or minus the number of the refusal.
 #[no_mangle]
 pub extern "C" fn rows_essentials(n: usize, table: &[u8], cubes: &mut [u16]) -> i32
-    ensures { λ r. ⌜ ListsForC (primesRefuses n (now (table .entry)) (length (now (cubes .entry)))) (essentialsOf n (now (table .entry)))
+    ensures { λ r. ⌜ ListedForC (primesRefuses n (now (table .entry)) (length (now (cubes .entry)))) (essentialsOf n (now (table .entry)))
         (now (cubes .entry)) (now (cubes .exit)) r ⌝ }
 {
     count_number(essentials::essentials(n, table, cubes))
@@ -120,7 +120,7 @@ pub extern "C" fn rows_check(n: usize, table: &[u8], values: &[u8], cares: &[u8]
 // Write for C: the length of the list file, which stands in the first bytes, or minus the number of the refusal.
 #[no_mangle]
 pub extern "C" fn rows_write(n: usize, values: &[u8], cares: &[u8], file: &mut [u8]) -> i32
-    ensures { λ r. ⌜ ListsForC (writeRefuses n (now (values .entry)) (now (cares .entry)) (length (now (file .entry))))
+    ensures { λ r. ⌜ ListedForC (writeRefuses n (now (values .entry)) (now (cares .entry)) (length (now (file .entry))))
         (fileOf n (now (values .entry)) (now (cares .entry))) (now (file .entry)) (now (file .exit)) r ⌝ }
 {
     count_number(listfile::write(n, values, cares, file))

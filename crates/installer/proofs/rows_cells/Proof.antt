@@ -2,7 +2,7 @@
 use mathlib.Core.Path.{_∙_}
 use borrow.Author.Needs.{needs}
 use Rattle.installer.proofs.Signed.{returned}
-use Rattle.installer.proofs.Counts.{few-codes, few-counted, lists-for-c}
+use Rattle.installer.proofs.Counts.{few-codes, few-counted, listed-for-c}
 use Rattle.installer.proofs.rows_cells.Statement.{statement}
 use Rattle.installer.proofs.rows_cells.Tie as tie
 
@@ -17,7 +17,7 @@ same-length c = search needs
 
 returns : tie.Need-returns
 returns c =
-    lists-for-c _ _ (c .before .before .before .cells .ensures) (returned (c .count-number .result) (c .count-number .ok) ∙ c .count-number .ensures)
+    listed-for-c _ _ (c .before .before .before .cells .ensures) (returned (c .count-number .result) (c .count-number .ok) ∙ c .count-number .ensures)
 
 pub rows-cells-spec : {M : Type 1} → statement M
 rows-cells-spec = tie.close (tie.spec cells-requires count-number-requires same-length returns)
