@@ -1,33 +1,27 @@
--- Check's answer is read off its number: the codes that it names are below 64, so that of a missed code is below 257. Assumes nothing.
+-- Check's answer is read off its number: the codes that it names are below 256, so the number of a missed code is below 257. Assumes nothing.
 use mathlib.Core.Path.{_≡_, refl, sym, ap, _∙_}
 use mathlib.Core.Bool.{Bool, cond}
 use mathlib.Core.List.{List}
-use Prim.Native.Nat.{ℕ, zero, suc, _+_, _-_, _<_, _≤_}
+use Prim.Native.Nat.{ℕ, zero, suc, _+_, _-_, _<_}
 use native.Mathlib.Omega.{arith}
 use lib.IntN.{pos}
 use borrow.Author.Tests.{lt-ltb, le-ltb}
 use Rattle.cube.specs.Words.{rowsOf}
-use Rattle.cube.specs.Calls.{widest, firstOf, tableConditions, listConditions, Answer, refuses, gives}
-use Rattle.cube.proofs.Calls.{codes-most, accepted, table-refuses, answered-gives, answered-refuses}
+use Rattle.cube.specs.Calls.{Answer, refuses, gives}
+use Rattle.cube.proofs.Calls.{codes-most, answered-gives, answered-refuses}
 use Rattle.checking.specs.Check.{checkRefuses, Verdict, right, missed, stray, verdict, checkOf}
 use Rattle.checking.proofs.Theorems.{check-means}
 use Rattle.installer.specs.Numbers.{checkNumber, readCheck, CheckRead}
+use Rattle.installer.proofs.Widths.{width-of}
 
 module _ (n : ℕ) (t vs ws : List ℕ) where
-  width-of : checkRefuses n t vs ws ≡ 0 → n ≤ widest
-  width-of e = go (firstOf (tableConditions n t)) refl
-    where
-      go : (k : ℕ) → firstOf (tableConditions n t) ≡ k → n ≤ widest
-      go zero a = accepted n t a .to
-      go (suc k) a = absurd (let z : suc k ≡ 0 = sym (table-refuses n t (listConditions n vs ws) k a) ∙ e in omega arith)
-
   not-refused : (v : Verdict) → checkOf n t vs ws ≡ gives v → checkRefuses n t vs ws ≡ 0
   not-refused v e = answered-gives (checkRefuses n t vs ws) v (verdict n t (rowsOf vs ws)) (sym e) .0
 
   missed-small : (c : ℕ) → checkOf n t vs ws ≡ gives (missed c) → c < 256
   missed-small c e =
       let none = not-refused (missed c) e in
-      omega (arith, check-means n t vs ws none .missed-when c .0 e .code, codes-most n (width-of none))
+      omega (arith, check-means n t vs ws none .missed-when c .0 e .code, codes-most n (width-of n _ none))
 
   pub check-read : CheckRead n t vs ws
   check-read = go (checkOf n t vs ws) refl

@@ -1,2 +1,3 @@
--- The numbers that C gets.
+-- The numbers that C gets, and what their proofs need besides.
 pub mod Numbers
+pub mod Steps

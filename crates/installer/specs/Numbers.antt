@@ -1,20 +1,52 @@
 -- "For the installer, which is in C: [..] Plan's C answer is 10,000 × rows + tested bits; Check's is 0 right, 1 + code missed, 257 + code stray; both
--- answer minus the number when they refuse." Assumes nothing.
+-- answer minus the number when they refuse." The other calls answer in the same way: Spell 0, and each call that writes a list its count.
+-- Assumes nothing.
 use mathlib.Core.Path.{_≡_}
 use mathlib.Core.Bool.{cond}
 use mathlib.Core.List.{List}
-use Prim.Native.Nat.{ℕ, zero, suc, _+_, _*_, _-_, _/_, _%_, _≤_}
+use Prim.Native.Nat.{ℕ, zero, suc, _+_, _*_, _-_, _/_, _%_}
 use lib.Dec.{ltb}
 use lib.IntN.{ℤ, pos, negsuc, negℤ}
-use Rattle.cube.specs.Calls.{Answer, refuses, gives}
+use Rattle.cube.specs.Words.{Row, rowOf}
+use Rattle.cube.specs.Calls.{Answer, refuses, gives, answered, countAnswer, Listed}
+use Rattle.cube.specs.declared.Counted.{Counted}
+use Rattle.spelling.specs.Spell.{spellRefuses}
 use Rattle.plan.specs.Plan.{Totals, planAnswer, Plans}
 use Rattle.plan.specs.declared.Planned.{Planned}
-use Rattle.plan.specs.declared.Planned.the-variants as planned
 use Rattle.checking.specs.Check.{Verdict, right, missed, stray, checkOf}
 
 -- "minus the number"
 abbrev pub minus : ℕ → ℤ
 minus k = negℤ (pos k)
+
+-- "the answer is their count": of codes, primes, chart rows, essential primes and bytes alike
+abbrev pub countNumber : Answer ℕ → ℤ
+countNumber (gives k) = pos k
+countNumber (refuses k) = minus k
+
+-- how the answer is read off the number: it is the count, and what is below 0 is minus a refusal's number
+abbrev pub readCount : ℤ → Answer ℕ
+readCount (pos k) = gives k
+readCount (negsuc k) = refuses (suc k)
+
+-- what Spell answers: "width and cube number give value and care."
+abbrev pub spellOf : ℕ → ℕ → Answer Row
+spellOf n q = answered (spellRefuses n q) (rowOf n q)
+
+-- 0 for a row, whose value and care stand in the lent bytes
+abbrev pub spellNumber : Answer Row → ℤ
+spellNumber (gives row) = pos 0
+spellNumber (refuses k) = minus k
+
+-- how the answer is read off the number and the two bytes: they are the row, unless the number is below 0
+abbrev pub readSpell : ℤ → ℕ → ℕ → Answer Row
+readSpell (pos k) value care = gives (record { value = value; care = care })
+readSpell (negsuc k) value care = refuses (suc k)
+
+-- "A refusal [..] changes no lent byte": a lent byte afterwards, into which this part of the row goes
+abbrev pub byteAfter : (Row → ℕ) → Answer Row → ℕ → ℕ
+byteAfter part (gives row) old = part row
+byteAfter part (refuses k) old = old
 
 -- "10,000 × rows + tested bits"
 abbrev pub planNumber : Answer Totals → ℤ
@@ -39,9 +71,24 @@ readCheck (pos zero) = gives right
 readCheck (pos (suc k)) = cond (ltb k 256) (gives (missed k)) (gives (stray (k - 256)))
 readCheck (negsuc k) = refuses (suc k)
 
--- what rows_check returns tells its answer, whatever the call: codes are below 64
+-- what rows_check returns tells its answer, whatever the call: codes are below 256
 abbrev pub CheckRead : ℕ → List ℕ → List ℕ → List ℕ → Type 0
 CheckRead n t vs ws = readCheck (checkNumber (checkOf n t vs ws)) ≡ checkOf n t vs ws
+
+-- What rows_spell promises: the number of Spell's answer, the two lent bytes, and that the answer is read off the three.
+pub record SpellsForC (answer : Answer Row) (value care value′ care′ : ℕ) (r : ℤ) : Type 0 where
+  pub number : r ≡ spellNumber answer
+  pub value-is : value′ ≡ byteAfter (λ row. row .value) answer value
+  pub care-is : care′ ≡ byteAfter (λ row. row .care) answer care
+  pub read : readSpell r value′ care′ ≡ answer
+
+-- What a call that writes a list promises to C: what it promises in Rattle, of an answer whose number is returned, and which is read off the number
+-- again.
+pub record ListedForC {A : Type 0} (refusal : ℕ) (list old new : List A) (r : ℤ) : Type 0 where
+  pub counted : Counted
+  pub listed : Listed refusal list old new counted
+  pub number : r ≡ countNumber (countAnswer counted)
+  pub read : readCount r ≡ countAnswer counted
 
 -- What rows_plan promises: Plan's promise, of an answer whose number is returned, and which is read off the number again.
 pub record PlansForC (n : ℕ) (t values cares values′ cares′ : List ℕ) (r : ℤ) : Type 0 where
@@ -49,8 +96,3 @@ pub record PlansForC (n : ℕ) (t values cares values′ cares′ : List ℕ) (r
   pub plans : Plans n t values cares values′ cares′ planned
   pub number : r ≡ planNumber (planAnswer planned)
   pub read : readPlan r ≡ planAnswer planned
-
--- totals whose number is far below 2^31
-abbrev pub FewTotals : Planned → Type 0
-FewTotals (planned.Rows r b) = (r ≤ 64) × (b ≤ 384)
-FewTotals (planned.Refused k) = Unit

@@ -1,19 +1,40 @@
-// Plan and Check for the installer, which is in C: numbers and byte arrays go in, one number comes out. `include/rows.h`
-// declares the two functions, and `rt staticlib installer` makes the library.
+// The calls for the installer, which is in C: numbers and lent memory go in, one number comes out. `include/rows.h` declares
+// the functions, and `rt staticlib installer` makes the library.
 //
 //     rows_plan(2, table, 4, values, 4, cares, 4)      // for the table 0 1 1 1: 20002, two rows with two tested bits
+//     rows_primes(2, table, 4, cubes, 9)               // for the same table: 2, and the first places hold 5 (12) and 7 (21)
 use checking::Checked;
+use cube::Counted;
 use plan::Planned;
+use spelling::Spelled;
 ghost use mathlib.Core.Path.{_≡_};
+ghost use lib.ListN.{length};
+ghost use Rattle.cube.specs.Words.{codesOf, primesOf, essentialsOf};
+ghost use Rattle.cube.specs.Calls.{countAnswer};
+ghost use Rattle.cells.specs.Cells.{cellsRefuses};
+ghost use Rattle.primes.specs.Primes.{primesRefuses};
 ghost use Rattle.plan.specs.Plan.{planAnswer};
 ghost use Rattle.checking.specs.Check.{checkAnswer, checkOf};
-ghost use Rattle.installer.specs.Numbers.{minus, planNumber, checkNumber, PlansForC, FewTotals};
+ghost use Rattle.listfile.specs.Write.{fileOf, writeRefuses};
+ghost use Rattle.installer.specs.Numbers.{minus, spellOf, countNumber, planNumber, checkNumber, SpellsForC, ListedForC, PlansForC};
+ghost use Rattle.installer.specs.Steps.{FewCounted, FewTotals};
 
 // Minus the number of a refusal.
 fn refusal(k: u8) -> i32
     ensures { λ r. ⌜ r ≡ minus k ⌝ }
 {
     0 - k as i32
+}
+
+// The number of an answer that counts.
+fn count_number(answer: Counted) -> i32
+    requires { ⌜ FewCounted answer ⌝ }
+    ensures { λ r. ⌜ r ≡ countNumber (countAnswer answer) ⌝ }
+{
+    match answer {
+        Counted::Count(count) => count as i32,
+        Counted::Refused(k) => refusal(k),
+    }
 }
 
 // The number of Plan's answer.
@@ -39,6 +60,47 @@ fn check_number(answer: Checked) -> i32
     }
 }
 
+// Spell for C: 0, with value and care of the cube in the two lent bytes, or minus the number of the refusal.
+#[no_mangle]
+pub extern "C" fn rows_spell(n: usize, cube: usize, value: &mut u8, care: &mut u8) -> i32
+    ensures { λ r. ⌜ SpellsForC (spellOf n cube) (now (value .entry)) (now (care .entry)) (now (value .exit)) (now (care .exit)) r ⌝ }
+{
+    match spelling::spell(n, cube) {
+        Spelled::Row(spelled_value, spelled_care) => {
+            *value = spelled_value;
+            *care = spelled_care;
+            0
+        }
+        Spelled::Refused(k) => refusal(k),
+    }
+}
+
+// Cells for C: how many codes the cube matches, which stand in the first bytes, or minus the number of the refusal.
+#[no_mangle]
+pub extern "C" fn rows_cells(n: usize, cube: usize, codes: &mut [u8]) -> i32
+    ensures { λ r. ⌜ ListedForC (cellsRefuses n cube (length (now (codes .entry)))) (codesOf n cube) (now (codes .entry)) (now (codes .exit)) r ⌝ }
+{
+    count_number(cells::cells(n, cube, codes))
+}
+
+// Primes for C: how many primes there are, which stand in the first places, or minus the number of the refusal.
+#[no_mangle]
+pub extern "C" fn rows_primes(n: usize, table: &[u8], cubes: &mut [u16]) -> i32
+    ensures { λ r. ⌜ ListedForC (primesRefuses n (now (table .entry)) (length (now (cubes .entry)))) (primesOf n (now (table .entry)))
+        (now (cubes .entry)) (now (cubes .exit)) r ⌝ }
+{
+    count_number(primes::primes(n, table, cubes))
+}
+
+// Essentials for C: how many essential primes there are, which stand in the first places, or minus the number of the refusal.
+#[no_mangle]
+pub extern "C" fn rows_essentials(n: usize, table: &[u8], cubes: &mut [u16]) -> i32
+    ensures { λ r. ⌜ ListedForC (primesRefuses n (now (table .entry)) (length (now (cubes .entry)))) (essentialsOf n (now (table .entry)))
+        (now (cubes .entry)) (now (cubes .exit)) r ⌝ }
+{
+    count_number(essentials::essentials(n, table, cubes))
+}
+
 // Plan for C: 10,000 × rows + tested bits of the list that is written, or minus the number of the refusal.
 #[no_mangle]
 pub extern "C" fn rows_plan(n: usize, table: &[u8], values: &mut [u8], cares: &mut [u8]) -> i32
@@ -53,4 +115,13 @@ pub extern "C" fn rows_check(n: usize, table: &[u8], values: &[u8], cares: &[u8]
     ensures { λ r. ⌜ r ≡ checkNumber (checkOf n (now (table .entry)) (now (values .entry)) (now (cares .entry))) ⌝ }
 {
     check_number(checking::check(n, table, values, cares))
+}
+
+// Write for C: the length of the list file, which stands in the first bytes, or minus the number of the refusal.
+#[no_mangle]
+pub extern "C" fn rows_write(n: usize, values: &[u8], cares: &[u8], file: &mut [u8]) -> i32
+    ensures { λ r. ⌜ ListedForC (writeRefuses n (now (values .entry)) (now (cares .entry)) (length (now (file .entry))))
+        (fileOf n (now (values .entry)) (now (cares .entry))) (now (file .entry)) (now (file .exit)) r ⌝ }
+{
+    count_number(listfile::write(n, values, cares, file))
 }

@@ -1,11 +1,12 @@
 -- `installer::plan_number` meets its contract, case by case. Assumes nothing.
 use mathlib.Core.Path.{sym, ap, _∙_, subst}
-use Prim.Native.Nat.{_≤_}
 use native.Mathlib.Omega.{arith}
 use borrow.Author.Needs.{needs}
 use Rattle.plan.specs.Plan.{planAnswer}
 use Rattle.plan.specs.declared.Planned.{Planned}
-use Rattle.installer.specs.Numbers.{planNumber, FewTotals}
+use Rattle.plan.specs.declared.Planned.the-variants.{Rows}
+use Rattle.installer.specs.Numbers.{planNumber}
+use Rattle.installer.specs.Steps.{FewTotals}
 use Rattle.installer.proofs.Signed.{small-is, returned}
 use Rattle.installer.proofs.plan_number.Statement.{statement}
 use Rattle.installer.proofs.plan_number.Tie as tie
@@ -14,7 +15,7 @@ enum-known-answer : tie.Need-enum-known-answer
 enum-known-answer c = search needs
 
 -- the totals at hand are small
-few : (c : tie.After-answer) → (c .answer .given .0 .0 ≤ 64) × (c .answer .given .0 .1 .0 ≤ 384)
+few : (c : tie.After-answer) → FewTotals (Rows (c .answer .given .0 .0) (c .answer .given .0 .1 .0))
 few c = subst FewTotals (c .answer .given .1) (c .before .before .pre)
 
 mul-result : tie.Need-mul-result

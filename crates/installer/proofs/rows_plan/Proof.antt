@@ -11,10 +11,7 @@ plan-requires : tie.Need-plan-requires
 plan-requires c κs = search needs
 
 plan-number-requires : tie.Need-plan-number-requires
-plan-number-requires c κs =
-    let s = c .before .before .before .before .before .before .before .before .before .before .args in
-    let p = c .before .before .before .before .plan in
-    few-totals (s .n) (s .table .now) (s .values .now) (s .cares .now) _ _ (p .result) (p .ensures)
+plan-number-requires c κs = few-totals _ (c .before .before .before .before .plan .ensures)
 
 same-length : tie.Need-same-length
 same-length c = search needs
@@ -24,15 +21,9 @@ same-length-2 c = search needs
 
 returns : tie.Need-returns
 returns c =
-    let s = c .before .before .before .before .before .before .before .before .before .before .before .args in
     let p = c .before .before .before .before .before .plan in
     let number = returned (c .plan-number .result) (c .plan-number .ok) ∙ c .plan-number .ensures in
-    record {
-      planned = p .result;
-      plans = p .ensures;
-      number = number;
-      read = ap readPlan number ∙ read-back (s .n) (s .table .now) (s .values .now) (s .cares .now) _ _ (p .result) (p .ensures);
-    }
+    record { planned = p .result; plans = p .ensures; number = number; read = ap readPlan number ∙ read-back _ (p .ensures) }
 
 pub rows-plan-spec : {M : Type 1} → statement M
 rows-plan-spec = tie.close (tie.spec plan-requires plan-number-requires same-length same-length-2 returns)

@@ -1,0 +1,17 @@
+-- What only the proofs of the functions for C need: an answer whose number fits the 32 bits that C gets. Assumes nothing.
+use Prim.Native.Nat.{_*_, _^_, _<_, _≤_}
+use Rattle.cube.specs.Calls.{widest}
+use Rattle.cube.specs.declared.Counted.{Counted}
+use Rattle.cube.specs.declared.Counted.the-variants as counted
+use Rattle.plan.specs.declared.Planned.{Planned}
+use Rattle.plan.specs.declared.Planned.the-variants as planned
+
+-- a count below 2^31
+abbrev pub FewCounted : Counted → Type 0
+FewCounted (counted.Count k) = k < 2 ^ 31
+FewCounted (counted.Refused k) = Unit
+
+-- totals whose number is far below 2^31: at most a row for each code, and a tested bit for each variable and row
+abbrev pub FewTotals : Planned → Type 0
+FewTotals (planned.Rows r b) = (r ≤ 2 ^ widest) × (b ≤ 2 ^ widest * widest)
+FewTotals (planned.Refused k) = Unit
