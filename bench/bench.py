@@ -23,6 +23,7 @@ sys.path.insert(0, "tests")
 import charts
 
 TABLES = "tests/tables/hard6.txt"
+ADVERSARIAL = "tests/tables/adversarial6.txt"
 DENSE = "tests/tables/dense.txt"
 OUT = "target/bench"
 PROBLEM = OUT + "/problem.lp"
@@ -163,7 +164,7 @@ def main(words):
     wrong = report("hard6", [charts.chart(width, cells) for width, cells, _ in tables], [weight for _, _, weight in tables], solvers, True)
     if not quick:
         wrong += report("random", charts.random_charts(1956, 500), None, solvers, False)
-    print("\nrows_plan on the tables of tests/tables: stack: %s bytes" % run([OUT + "/stack", TABLES, DENSE]).strip())
+    print("\nrows_plan on the tables of tests/tables: stack: %s bytes" % run([OUT + "/stack", TABLES, ADVERSARIAL, DENSE]).strip())
     sys.exit("%d answers are wrong" % wrong if wrong else 0)
 
 

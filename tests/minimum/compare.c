@@ -1,10 +1,12 @@
 /* Compares the lists that rows_plan writes with what programs find that share no code with it and are meant to be obviously right:
  *   - for every table of widths 1, 2 and 3, by trying every set of at most 2^(n-1) cubes;
  *   - for random tables of widths 1 to 6 with at most 16 wanted codes, by the sets of wanted codes;
- *   - for the tables of the files given, whose rows and bits are known, each within a quarter of a second of the processor's time.
- * Each list is tried on all codes, and checked by rows_check. Prints each failure, and at the end 'N passed, 0 failed'.
+ *   - for the tables of the files given, whose rows and bits are known, each within so many seconds of the processor's time.
+ * Each list is tried on all codes, and checked by rows_check. All this is done with the stack that rows.h asks for, 1 MB, and memory behind it that nobody may
+ * touch. Prints each failure, and at the end 'N passed, 0 failed'.
  *
- *     compare FILE COUNT ..       files of tables, and how many tables each has */
+ *     compare FILE COUNT SECONDS ..       files of tables, how many tables each has, and the time for one */
+#include <pthread.h>
 #include <stdio.h>
 #include <stdlib.h>
 #include <string.h>
@@ -160,8 +162,8 @@ static int known_table(const char *line) {
     return 1;
 }
 
-/* The tables of a file, of which there must be so many. */
-static void known_tables(const char *path, long expected) {
+/* The tables of a file, of which there must be so many, none slower than this. */
+static void known_tables(const char *path, long expected, double most) {
     FILE *f = fopen(path, "r");
     if (f == NULL) {
         perror(path);
@@ -177,19 +179,18 @@ static void known_tables(const char *path, long expected) {
         }
     }
     fclose(f);
-    if (tables != expected || slowest > 0.25) {
+    if (tables != expected || slowest > most) {
         failed++;
-        printf("%s: %ld tables, expected %ld; the slowest took %.3f s\n", path, tables, expected, slowest);
+        printf("%s: %ld tables, expected %ld; the slowest took %.3f s, allowed %.3f s\n", path, tables, expected, slowest, most);
     } else {
         passed++;
     }
 }
 
-int main(int argc, char **argv) {
-    if (argc % 2 == 0) {
-        fprintf(stderr, "usage: compare FILE COUNT ..\n");
-        return 2;
-    }
+/* The arguments of the program, ended by NULL. */
+static char **arguments;
+
+static void *compare(void *unused) {
     for (size_t n = 1; n <= 3; n++) {
         all_tables(n);
     }
@@ -197,8 +198,24 @@ int main(int argc, char **argv) {
         random_tables(n, 800, 11);
         random_tables(n, 100, 16);
     }
-    for (int i = 1; i + 1 < argc; i += 2) {
-        known_tables(argv[i], atol(argv[i + 1]));
+    for (char **file = arguments; *file != NULL; file += 3) {
+        known_tables(file[0], atol(file[1]), atof(file[2]));
+    }
+    return unused;
+}
+
+int main(int argc, char **argv) {
+    pthread_attr_t attributes;
+    pthread_t thread;
+    if (argc % 3 != 1) {
+        fprintf(stderr, "usage: compare FILE COUNT SECONDS ..\n");
+        return 2;
+    }
+    arguments = argv + 1;
+    if (pthread_attr_init(&attributes) || pthread_attr_setstacksize(&attributes, 1 << 20) || pthread_attr_setguardsize(&attributes, 1 << 20) ||
+        pthread_create(&thread, &attributes, compare, NULL) || pthread_join(thread, NULL)) {
+        fprintf(stderr, "no thread\n");
+        return 2;
     }
     printf("%ld passed, %ld failed\n", passed, failed);
     return failed != 0;
