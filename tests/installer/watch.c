@@ -1,4 +1,3 @@
-#define _DEFAULT_SOURCE
 #include <signal.h>
 #include <stdarg.h>
 #include <stdio.h>
