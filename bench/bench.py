@@ -164,7 +164,8 @@ def main(words):
     wrong = report("hard6", [charts.chart(width, cells) for width, cells, _ in tables], [weight for _, _, weight in tables], solvers, True)
     if not quick:
         wrong += report("random", charts.random_charts(1956, 500), None, solvers, False)
-    print("\nstack for the tables of tests/tables: %s bytes in rows_plan, %s in the other calls for C" % tuple(run([OUT + "/stack", TABLES, ADVERSARIAL, DENSE]).split()))
+    stack = run([OUT + "/stack", TABLES, ADVERSARIAL, DENSE]).split()
+    print("\nstack for the tables of tests/tables: %s bytes in rows_plan, %s in the other calls for C" % tuple(stack))
     sys.exit("%d answers are wrong" % wrong if wrong else 0)
 
 

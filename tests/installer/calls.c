@@ -7,30 +7,40 @@
 static int refuses_width(size_t n) { return n < 1 || n > 6 ? 1 : 0; }
 
 static int refuses_cube(size_t n, size_t cube) {
-    int k = refuses_width(n);
-    return k ? k : cube >= power(3, n) ? 8 : 0;
+    if (refuses_width(n)) {
+        return 1;
+    }
+    return cube >= power(3, n) ? 8 : 0;
 }
 
 static int refuses_table(size_t n, const uint8_t *table, size_t table_len) {
-    int k = refuses_width(n);
-    if (k || table_len != power(2, n)) {
-        return k ? k : 2;
+    if (refuses_width(n)) {
+        return 1;
+    }
+    if (table_len != power(2, n)) {
+        return 2;
     }
     for (size_t c = 0; c < table_len; c++) {
-        k = table[c] > 2 ? 3 : k;
+        if (table[c] > 2) {
+            return 3;
+        }
     }
-    return k;
+    return 0;
 }
 
 static int refuses_list(size_t n, const uint8_t *values, size_t values_len, const uint8_t *cares, size_t cares_len) {
-    if (values_len != cares_len || values_len > 255) {
-        return values_len != cares_len ? 5 : 6;
+    if (values_len != cares_len) {
+        return 5;
     }
-    int k = 0;
+    if (values_len > 255) {
+        return 6;
+    }
     for (size_t i = 0; i < values_len; i++) {
-        k = formed(n, (struct row){values[i], cares[i]}) ? k : 7;
+        if (!formed(n, (struct row){values[i], cares[i]})) {
+            return 7;
+        }
     }
-    return k;
+    return 0;
 }
 
 /* Bytes as text, for a failure: a digit each, `+` above 9. */
@@ -95,8 +105,8 @@ static int32_t try_listing(int essentials, size_t n, const uint8_t *cells, size_
     }
     right = right && kept(1, (size_t)count * sizeof *cubes);
     int32_t want = k ? -k : count;
-    expect(answer == want && right, "%s(%zu, %s, %zu places): %d, expected %d; lent memory is %s", calling, n, text(cells, table_len), cubes_len,
-           answer, want, word(right));
+    expect(answer == want && right, "%s(%zu, %s, %zu places): %d, expected %d; lent memory is %s", calling, n, text(cells, table_len), cubes_len, answer, want,
+           word(right));
     return answer;
 }
 
@@ -135,7 +145,8 @@ int32_t try_plan(size_t n, const uint8_t *cells, size_t table_len, size_t values
     return answer;
 }
 
-int32_t try_check(size_t n, const uint8_t *cells, size_t table_len, const uint8_t *list_values, size_t values_len, const uint8_t *list_cares, size_t cares_len) {
+int32_t try_check(size_t n, const uint8_t *cells, size_t table_len, const uint8_t *list_values, size_t values_len, const uint8_t *list_cares,
+                  size_t cares_len) {
     uint8_t *table = lend(0, cells, table_len), *values = lend(1, list_values, values_len), *cares = lend(2, list_cares, cares_len);
     int k = refuses_table(n, cells, table_len);
     k = k ? k : refuses_list(n, list_values, values_len, list_cares, cares_len);

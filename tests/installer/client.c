@@ -4,9 +4,12 @@
 
 #include "client.h"
 
-/* Some that are no width would be one if bits were cut off. */
-const size_t widths[] = {1,   2,   3,   4,   5,     6,     0,          7,          8,            9,                32,           63,      64,
-                         65,  255, 256, 257, 262, 65537, 65542, 4294967297, 4294967302, SIZE_MAX / 2, SIZE_MAX / 2 + 2, SIZE_MAX - 1, SIZE_MAX};
+/* Some of those that are no width would be one if bits were cut off. */
+const size_t widths[] = {
+    1, 2, 3, 4, 5, 6,
+    0, 7, 8, 9, 32, 63, 64, 65, 255, 256, 257, 262, 65537, 65542, 4294967297, 4294967302,
+    SIZE_MAX / 2, SIZE_MAX / 2 + 2, SIZE_MAX - 1, SIZE_MAX,
+};
 const size_t width_count = LENGTH(widths);
 
 size_t codes(size_t n) { return power(2, n < 1 || n > WIDEST ? WIDEST : n); }
