@@ -4,7 +4,7 @@
     bench/bench.py               the listed tables, and random ones
     bench/bench.py --quick       the listed tables alone, without the other solvers
 
-It builds bench/solve.c over the proved search and bench/stack.c over Plan for C, takes the
+It builds bench/solve.c over the proved search and bench/stack.c over the calls for C, takes the
 charts from tests/charts.py, compares every optimum with the listed one and with that of glpsol
 and cbc, and prints the times of whole processes, their ratios and the stack that was used. Run
 from the top of the repository. What is missing of Debian's glpk-utils and coinor-cbc it installs
@@ -23,6 +23,7 @@ sys.path.insert(0, "tests")
 import charts
 
 TABLES = "tests/tables/hard6.txt"
+ADVERSARIAL = "tests/tables/adversarial6.txt"
 DENSE = "tests/tables/dense.txt"
 OUT = "target/bench"
 PROBLEM = OUT + "/problem.lp"
@@ -163,7 +164,8 @@ def main(words):
     wrong = report("hard6", [charts.chart(width, cells) for width, cells, _ in tables], [weight for _, _, weight in tables], solvers, True)
     if not quick:
         wrong += report("random", charts.random_charts(1956, 500), None, solvers, False)
-    print("\nrows_plan on the tables of tests/tables: stack: %s bytes" % run([OUT + "/stack", TABLES, DENSE]).strip())
+    stack = run([OUT + "/stack", TABLES, ADVERSARIAL, DENSE]).split()
+    print("\nstack for the tables of tests/tables: %s bytes in rows_plan, %s in the other calls for C" % tuple(stack))
     sys.exit("%d answers are wrong" % wrong if wrong else 0)
 
 

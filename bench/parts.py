@@ -4,9 +4,10 @@
     bench/parts.py               every variant
     bench/parts.py NAME...       the named ones
 
-A variant is a copy of the crates in target/bench/parts with a few lines edited. `rt try` compiles
-it without a proof, so that no proof has to follow an edit; what the program wrote is read from the
-report that it is not what was expected. Run from the top of the repository.
+A variant is a copy of the crates in target/bench/parts with a few lines edited and a program added
+that runs the search. `rt try` compiles it without a proof, so that no proof has to follow an edit;
+what the program wrote is read from the report that it is not what was expected. Run from the top of
+the repository.
 """
 import os
 import re
@@ -19,25 +20,34 @@ import charts
 
 TABLES = "tests/tables/hard6.txt"
 OUT = "target/bench/parts"
-PROGRAM = "search_tables/src/main.rt"
 TIGHTEN = "bound/src/lib.rt"
 CERTIFICATE = "bound/src/certificate.rt"
 DUAL = "bound/src/dual.rt"
 SEARCH = "search/src/lib.rt"
 BRANCHING = "search/src/branching.rt"
 
-# The program with the sum and the largest of the nodes and the sum of the weights as its only output.
-COUNTING = [
-    (PROGRAM, "fn checked(words: &[u64], weights: &[u32], columns: u64) -> u64", "fn checked(words: &[u64], weights: &[u32], columns: u64, sums: &mut [u64; 3]) -> u64"),
-    (PROGRAM, "    answer.weight\n}", "    sums[0] += answer.nodes;\n    if sums[1] < answer.nodes {\n        sums[1] = answer.nodes;\n    }\n    sums[2] += answer.weight;\n    answer.weight\n}"),
-    (PROGRAM, "fn solve(text: &[u8], at: usize) -> usize", "fn solve(text: &[u8], at: usize, sums: &mut [u64; 3]) -> usize"),
-    (PROGRAM, "    io::print_decimal(\n        STDOUT_FILENO,\n        checked(&words[..n], &weights[..n], columns.value),\n    );\n    io::write_all(STDOUT_FILENO, b\"\\n\");\n",
-     "    checked(&words[..n], &weights[..n], columns.value, sums);\n"),
-    (PROGRAM, "    let mut left = n;\n", "    let mut left = n;\n    let mut sums = [0u64; 3];\n"),
-    (PROGRAM, "solve(text, at)", "solve(text, at, &mut sums)"),
-    (PROGRAM, "        left -= 1;\n    }\n", "        left -= 1;\n    }\n" + "    io::write_all(STDOUT_FILENO, b\" \");\n".join(
-        "    io::print_decimal(STDOUT_FILENO, sums[%d]);\n" % place for place in range(3))),
-]
+# A program that solves charts and writes the nodes in all, the most for one chart, and the sum of the weights.
+SOLVING = """use libc::STDOUT_FILENO;
+
+fn solve(words: &[u64], weights: &[u32], columns: u64, sums: &mut [u64; 3]) {
+    let answer = search::minimum_cover(words, weights, columns);
+    sums[0] += answer.nodes;
+    if sums[1] < answer.nodes {
+        sums[1] = answer.nodes;
+    }
+    sums[2] += answer.weight;
+}
+
+fn main() {
+    let mut sums = [0u64; 3];
+%s    io::print_decimal(STDOUT_FILENO, sums[0]);
+    io::write_all(STDOUT_FILENO, b" ");
+    io::print_decimal(STDOUT_FILENO, sums[1]);
+    io::write_all(STDOUT_FILENO, b" ");
+    io::print_decimal(STDOUT_FILENO, sums[2]);
+}
+"""
+SOLVING_DEPS = "parts: numbers covering matrix reduction bound search io libc\n"
 
 SHARE = """    let rest = first.live;
     let share = dual::from_shares(words, weights, &rest, undecided);
@@ -51,8 +61,8 @@ ZERO = """    let ascent = dual::from_zero(words, weights, &live, undecided);
     let rest = first.live;
 """
 IMPROVE = "    improve(words, &by_column, &mut prices, &mut slack, undecided);\n"
-NEXT = """let next = branching::pick(words, weights, &rest, undecided);
-    if next == words.len() {
+NEXT = """let next = branching::branching_row(words, weights, &rest, undecided);
+    if next == matrix::row_count(words) {
         return incumbent;
     }
     let other = choose(words, weights, rest, undecided, incumbent.weight, next);"""
@@ -86,16 +96,29 @@ def edit(file, old, new):
     open(path, "w").write(text.replace(old, new))
 
 
-def measure(edits, problems):
+def program(problems):
+    """The text of the program that solves these charts."""
+    calls = ""
+    for number, (columns, rows) in enumerate(problems):
+        words, weights = (", ".join(str(row[place]) for row in rows) for place in (0, 1))
+        calls += "    let words_%d: [u64; %d] = [%s];\n" % (number, len(rows), words)
+        calls += "    let weights_%d: [u32; %d] = [%s];\n" % (number, len(rows), weights)
+        calls += "    solve(&words_%d, &weights_%d, %d, &mut sums);\n" % (number, number, columns)
+    return SOLVING % calls
+
+
+def measure(edits, text):
     """The nodes in all and at most, and the sum of the optima, of a variant; None where it does not end within the ten seconds of `rt try`."""
     shutil.rmtree(OUT, ignore_errors=True)
     shutil.copytree("crates", OUT + "/crates")
     shutil.copy("crates.txt", OUT)
-    for each in COUNTING + edits:
+    open(OUT + "/crates.txt", "a").write(SOLVING_DEPS)
+    for each in edits:
         edit(*each)
-    open(OUT + "/crates/search_tables/stdin", "w").write(problems)
-    open(OUT + "/crates/search_tables/stdout", "w").write("")
-    report = subprocess.run(["rt", "try", "search_tables"], cwd=OUT, stdout=subprocess.PIPE, stderr=subprocess.STDOUT, text=True).stdout
+    os.makedirs(OUT + "/crates/parts/src")
+    open(OUT + "/crates/parts/src/main.rt", "w").write(text)
+    open(OUT + "/crates/parts/stdout", "w").write("")
+    report = subprocess.run(["rt", "try", "parts"], cwd=OUT, stdout=subprocess.PIPE, stderr=subprocess.STDOUT, text=True).stdout
     found = re.findall(r'found "(\d+) (\d+) (\d+)"', report)
     if not found and "-O3 failed, with status 124" not in report:
         sys.exit(report)
@@ -104,11 +127,11 @@ def measure(edits, problems):
 
 def main(names):
     tables = list(charts.tables(TABLES))
-    problems = "\n".join(charts.show(*charts.chart(width, cells)) for width, cells, _ in tables)
+    text = program([charts.chart(width, cells) for width, cells, _ in tables])
     listed = sum(weight for _, _, weight in tables)
     wrong = 0
     for name in names or VARIANTS:
-        found = measure(VARIANTS[name], problems)
+        found = measure(VARIANTS[name], text)
         print("%-22s %s" % (name, "%8d nodes in all, %7d at most" % tuple(found[:2]) if found else "did not end in time"), flush=True)
         wrong += found is not None and found[2] != listed
     sys.exit("%d variants have another optimum" % wrong if wrong else 0)

@@ -1,5 +1,5 @@
-/* Runs rows_plan on the tables of the files named, and writes how many bytes of stack it needed. A table is a line "width cells rows bits", the cells 0
- * barred, 1 wanted, - free. */
+/* Runs the calls for C on the tables of the files named, and writes how many bytes of stack rows_plan needed, and how many the others. A table is a line "width
+ * cells rows bits", the cells 0 barred, 1 wanted, - free. */
 #include <stdint.h>
 #include <stdio.h>
 
@@ -7,37 +7,74 @@
 #include "rows.h"
 
 #define MOST_CELLS 64
+#define MOST_CUBES 729
+#define MOST_ROWS 255
 
 static FILE *tables;
+static unsigned width;
+static size_t cells;
+static uint8_t table[MOST_CELLS], values[MOST_ROWS], cares[MOST_ROWS];
+
+/* The next table of the file; whether there is one. */
+static int next(void) {
+    char text[MOST_CELLS + 1];
+    if (fscanf(tables, "%u %64s %*u %*u", &width, text) != 2) {
+        return 0;
+    }
+    cells = strlen(text);
+    for (size_t c = 0; c < cells; c++) {
+        table[c] = text[c] == '-' ? 2 : text[c] - '0';
+    }
+    return 1;
+}
+
+static void accept(int32_t answer) {
+    if (answer < 0) {
+        fprintf(stderr, "refused: %d\n", answer);
+        exit(1);
+    }
+}
 
 static void *plan_all(void *unused) {
-    static char text[MOST_CELLS + 1];
-    static uint8_t table[MOST_CELLS], values[MOST_CELLS], cares[MOST_CELLS];
-    unsigned width;
-    while (fscanf(tables, "%u %64s %*u %*u", &width, text) == 2) {
-        size_t cells = strlen(text);
-        for (size_t c = 0; c < cells; c++) {
-            table[c] = text[c] == '-' ? 2 : text[c] - '0';
-        }
-        if (rows_plan(width, table, cells, values, MOST_CELLS, cares, MOST_CELLS) < 0) {
-            fprintf(stderr, "refused: %u %s\n", width, text);
-            exit(1);
-        }
+    while (next()) {
+        accept(rows_plan(width, table, cells, values, MOST_CELLS, cares, MOST_CELLS));
     }
     return unused;
 }
 
-int main(int count, char **names) {
+static void *all_others(void *unused) {
+    static uint16_t cubes[MOST_CUBES];
+    static uint8_t codes[MOST_CELLS], file[2 + 2 * MOST_ROWS];
+    memset(values, 0, sizeof values);
+    memset(cares, 0, sizeof cares);
+    while (next()) {
+        accept(rows_spell(width, 0, values, cares));
+        accept(rows_cells(width, 0, codes, MOST_CELLS));
+        accept(rows_primes(width, table, cells, cubes, MOST_CUBES));
+        accept(rows_essentials(width, table, cells, cubes, MOST_CUBES));
+        accept(rows_check(width, table, cells, values, MOST_ROWS, cares, MOST_ROWS));
+        accept(rows_write(width, values, MOST_ROWS, cares, MOST_ROWS, file, sizeof file));
+    }
+    return unused;
+}
+
+/* The most stack that the work needs on one of the files. */
+static size_t most_of(void *(*work)(void *), int count, char **names) {
     size_t most = 0;
     for (int name = 1; name < count; name++) {
         tables = fopen(names[name], "r");
         if (!tables) {
-            return 1;
+            perror(names[name]);
+            exit(1);
         }
-        size_t used = stack_of(plan_all);
+        size_t used = stack_of(work);
         most = used > most ? used : most;
         fclose(tables);
     }
-    printf("%zu\n", most);
+    return most;
+}
+
+int main(int count, char **names) {
+    printf("%zu %zu\n", most_of(plan_all, count, names), most_of(all_others, count, names));
     return 0;
 }

@@ -1,26 +1,52 @@
-/* Rows for a switch chip: Plan and Check of the row builder, for C.
+/* rows.h: the row builder for C. It makes the rows by which a switch chip picks packet marks.
  *
- * Link with libinstaller.a, which `rt staticlib installer` writes.
+ * Link with libinstaller.a, which `rt staticlib installer` writes. Of the C library it uses memcpy,
+ * memmove, memset and memcmp at most. examples/install.c is a client to copy.
  *
- * A table has 2^n cells, one for each mark of n bits from mark 0 up: 0 barred, 1 wanted, 2 free.
- * A list is two arrays of one length: row i has values[i] and cares[i], and matches the marks m with
- * (m & cares[i]) == values[i].
+ * Words
  *
- * The caller owns all memory. Each array is lent for the call only, with the length that is stated;
- * no two of them may overlap, and none may be NULL (for a length of 0, any other address will do).
- * Nothing is kept and nothing is allocated. A call needs stack: rows_plan took about 125 KB at most
- * on the tables of tests/tables, measured on x86-64, which is no proved bound. Apart from that, no
- * call fails in another way than by its answer.
+ *   width         n, the number of bits of a code: 1 to 6
+ *   code          a packet mark: a number from 0 to 2^n - 1
+ *   table         2^n cells, one for each code from code 0 up: 0 barred, 1 wanted, 2 free
+ *   row           a value and a care. It matches the codes c with (c & care) == value, so care has a
+ *                 one at each bit that is tested. It is formed when care is below 2^n and value has
+ *                 no one outside care
+ *   list          rows in two arrays of the same length: row i is values[i] with cares[i]. It matches
+ *                 a code when one of its rows does. It may be empty, and a row may be repeated
+ *   cube number   a formed row as one number, of n base-3 digits, the highest bit's first: 0 the bit
+ *                 must be 0, 1 it must be 1, 2 it is not tested. From 0 to 3^n - 1
+ *   prime         a cube that matches no barred code, such that no cube with fewer tested bits that
+ *                 matches no barred code matches everything that it matches
+ *   essential     a prime that alone of all primes matches some wanted code
  *
- * A refusal is minus one of these numbers, and then no lent byte is changed:
- *   1  n is not 1 to 6
- *   2  the table has not 2^n cells
- *   3  a cell is above 2
- *   4  values or cares has fewer than 2^n places   (rows_plan)
- *   5  values and cares differ in length           (rows_check)
- *   6  more than 255 rows                          (rows_check)
- *   7  a row is not formed: its care is 2^n or more, or its value has a bit outside care (rows_check)
- * Where several hold, the lowest is answered.
+ * Memory
+ *
+ * The caller owns all memory. An array is lent for the call only. It has at least the length that is
+ * stated with it, which counts places and not bytes. It does not overlap another lent array, and it is
+ * not NULL: for a length of 0, any other address will do. A call touches no other memory of the caller,
+ * keeps nothing and allocates nothing, so threads may call at the same time, each with its own arrays.
+ *
+ * A call needs stack: allow rows_plan 1 MB. The most that was measured, on x86-64, is 287 KB for it and
+ * 13 KB for the other calls; no bound is proved.
+ *
+ * Answers
+ *
+ * An answer of 0 or more is a success, and says what is told with each call. The call fills places from
+ * the first one on; those behind them are unchanged.
+ *
+ * A negative answer is a refusal. It is minus one of these numbers, and then no lent byte is changed:
+ *
+ *   1   n is not 1 to 6
+ *   2   the table does not have 2^n cells
+ *   3   a cell is above 2
+ *   4   an array to be filled is too short
+ *   5   values and cares differ in length
+ *   6   there are more than 255 rows
+ *   7   a row is not formed
+ *   8   the cube number is 3^n or more
+ *
+ * A call refuses for the numbers named with it and for nothing else. They are named in the order in
+ * which they are tested: where several hold, the one named first is answered.
  */
 #ifndef ROWS_H
 #define ROWS_H
@@ -32,24 +58,62 @@
 extern "C" {
 #endif
 
-/* Writes a shortest list for the table into the first places of values and cares, ascending by cube
- * number, and leaves the places behind it unchanged.
+/* The row of a cube: its value goes into *value, its care into *care.
  *
- * Answers 10000 * rows + tested bits of that list, or a refusal: -1, -2, -3, -4.
- * For an answer of 0 or more, rows = answer / 10000 and tested bits = answer % 10000.
- * No list that is right for the table has fewer rows, and none with as many rows tests fewer bits.
+ * Answers 0.
+ * Refuses 1, 8.
+ */
+int32_t rows_spell(size_t n, size_t cube, uint8_t *value, uint8_t *care);
+
+/* The codes that a cube matches, ascending, into the first places of codes.
+ *
+ * Answers how many there are.
+ * Refuses 1, 8, then 4 when codes_len is below 2^n, even if fewer codes match.
+ */
+int32_t rows_cells(size_t n, size_t cube, uint8_t *codes, size_t codes_len);
+
+/* The cube numbers of all primes of the table, ascending, into the first places of cubes.
+ *
+ * Answers how many there are.
+ * Refuses 1, 2, 3, then 4 when cubes_len is below 3^n, even if there are fewer primes.
+ */
+int32_t rows_primes(size_t n, const uint8_t *table, size_t table_len, uint16_t *cubes, size_t cubes_len);
+
+/* The cube numbers of the essential primes of the table, ascending, into the first places of cubes.
+ *
+ * Answers how many there are.
+ * Refuses 1, 2, 3, then 4 when cubes_len is below 3^n, as rows_primes does.
+ */
+int32_t rows_essentials(size_t n, const uint8_t *table, size_t table_len, uint16_t *cubes, size_t cubes_len);
+
+/* A shortest list for the table, ascending by cube number, into the first places of values and cares.
+ * It matches every wanted code and no barred one. No list that does so has fewer rows, and none with as
+ * many rows tests fewer bits. Which of several equally good lists it is, is left open.
+ *
+ * Answers 10000 * rows + tested bits, summed over the rows: rows is answer / 10000, tested bits is
+ * answer % 10000.
+ * Refuses 1, 2, 3, then 4 when values_len or cares_len is below 2^n, even if there are fewer rows.
  */
 int32_t rows_plan(size_t n, const uint8_t *table, size_t table_len, uint8_t *values, size_t values_len,
                   uint8_t *cares, size_t cares_len);
 
-/* Says whether a list is right for the table: whether it matches every wanted mark and no barred one.
- * Changes nothing.
+/* Whether a list matches every wanted code of the table and no barred one. Changes nothing.
  *
- * Answers 0 if it is right; 1 + mark if the lowest wrong mark is wanted and not matched; 257 + mark if
- * it is barred and matched; or a refusal: -1, -2, -3, -5, -6, -7. A list of no rows is allowed.
+ * Answers 0 if it does. Otherwise the lowest wrong code is named: 1 + code if it is wanted and not
+ * matched, 257 + code if it is barred and matched.
+ * Refuses 1, 2, 3, 5, 6, 7.
  */
 int32_t rows_check(size_t n, const uint8_t *table, size_t table_len, const uint8_t *values,
                    size_t values_len, const uint8_t *cares, size_t cares_len);
+
+/* The list file of a list, into the first bytes of file: byte 0 the width, byte 1 the number of rows,
+ * then all values, then all cares.
+ *
+ * Answers the length of the list file, 2 + 2 * rows: at most 512.
+ * Refuses 1, 5, 6, 7, then 4 when file_len is below that length.
+ */
+int32_t rows_write(size_t n, const uint8_t *values, size_t values_len, const uint8_t *cares,
+                   size_t cares_len, uint8_t *file, size_t file_len);
 
 #ifdef __cplusplus
 }

@@ -3,9 +3,6 @@
 
     charts.py tables FILE        the charts of the tables in FILE, one problem after the other
     charts.py random SEED N      N random charts of six-bit tables
-    charts.py test FILE DIR      DIR/stdin and DIR/stdout for the program search_tables:
-                                 the charts of FILE with the optimum listed there, and small
-                                 problems whose optimum is found here by trying every selection
 
 A table is a line "width cells rows bits", a cell for each code from 0 up: 0 barred, 1 wanted,
 - free. Its chart has a row for each prime implicant and a column for each wanted code; a row
@@ -77,58 +74,6 @@ def random_charts(seed, count):
     return [chart(6, random_cells(generator)) for _ in range(count)]
 
 
-def least(columns, rows):
-    """The least weight of a selection that covers the columns, by trying each."""
-    best = None
-    for chosen in range(1 << len(rows)):
-        picked = [row for place, row in enumerate(rows) if chosen >> place & 1]
-        covered = 0
-        for word, _ in picked:
-            covered |= word
-        if columns & ~covered == 0:
-            weight = sum(weight for _, weight in picked)
-            best = weight if best is None else min(best, weight)
-    return best
-
-
-def small(generator):
-    """Small problems: the edges, and random ones in which each column has a row."""
-    yield 0, []
-    yield 0, [(5, 7)]
-    yield 1, [(1, 0)]
-    yield 1 << 63, [(1 << 63, 4294967295)]
-    yield (1 << 64) - 1, [((1 << 64) - 1, 9), ((1 << 32) - 1, 4), (((1 << 32) - 1) << 32, 4)]
-    yield 7, [(3, 5), (6, 5), (5, 5)]
-    yield 7, [(7, 9), (1, 3), (2, 3), (4, 3), (3, 5)]
-    while True:
-        places = generator.sample(range(64), generator.randint(1, 8))
-        heaviest = generator.choice([1, 3, 100, 4294967295])
-        rows = [
-            (sum(1 << place for place in places if generator.random() < 0.35), generator.randint(0, heaviest))
-            for _ in range(generator.randint(1, 12))
-        ]
-        columns = sum(1 << place for place in places)
-        covered = 0
-        for word, _ in rows:
-            covered |= word
-        if columns & ~covered == 0:
-            yield columns, rows
-
-
-def test(path, folder):
-    """What the program search_tables is run on, and what it must write."""
-    problems, weights = [], []
-    for width, cells, weight in tables(path):
-        problems.append(show(*chart(width, cells)))
-        weights.append(weight)
-    generator = random.Random(1956)
-    for problem, _ in zip(small(generator), range(200)):
-        problems.append(show(*problem))
-        weights.append(least(*problem))
-    open(folder + "/stdin", "w").write("\n".join(problems) + "\n")
-    open(folder + "/stdout", "w").write("\n".join(map(str, weights)) + "\n")
-
-
 def main(words):
     if words[:1] == ["tables"] and len(words) == 2:
         for width, cells, _ in tables(words[1]):
@@ -136,8 +81,6 @@ def main(words):
     elif words[:1] == ["random"] and len(words) == 3:
         for problem in random_charts(int(words[1]), int(words[2])):
             print(show(*problem))
-    elif words[:1] == ["test"] and len(words) == 3:
-        test(words[1], words[2])
     else:
         sys.exit(__doc__)
 

@@ -1,16 +1,21 @@
 #!/usr/bin/env python3
-"""Computes again what each line of examples.txt says, by brute force, and says where the line or what the program `examples` prints differs.
+"""Computes the worked examples of examples.txt by brute force, and says where examples.txt, or the program `examples` of the crate of that name, differs.
 
     python3 check.py            all examples
     python3 check.py NAME..     what is computed of these: primes, essential ones marked *, and the counts
+    python3 check.py --print    what the program must print: the file crates/examples/stdout
 
 A cube is a string of 0, 1 and -, x1 first. It is handled as the set of codes that it matches, a number whose bit c
 stands for code c. Nothing here is shared with the crates.
 """
 import functools
 import itertools
-import os
+import pathlib
+import re
 import sys
+
+HERE = pathlib.Path(__file__).parent
+CRATE = HERE.parent.parent / 'crates' / 'examples'
 
 
 def codes(cube):
@@ -84,43 +89,72 @@ def compute(width, table):
 
 def listing(title, cubes):
     """A list of cubes as the program prints it."""
-    return '  %s %d:%s' % (title, len(cubes), ''.join(' ' + cube for cube in cubes))
+    return '  %s %d:%s\n' % (title, len(cubes), ''.join(' ' + cube for cube in cubes))
 
 
-def printed(path):
-    """The lines that the program prints below each name. Its output is held to this file whenever it is proved."""
-    sections, name = {}, None
-    for line in open(path).read().splitlines():
-        if not line.startswith(' '):
-            name = line
-        else:
-            sections.setdefault(name, []).append(line)
-    return sections
+def section(name, found):
+    """What the program prints for an example."""
+    all_primes, essential, (rows, tested) = found
+    return name + '\n' + listing('primes', all_primes) + listing('essentials', essential) + '  plan rows %d bits %d\n' % (rows, tested)
 
 
-def main(names):
-    here = os.path.dirname(os.path.abspath(__file__))
-    program = printed(os.path.join(here, '../../crates/examples/stdout'))
-    examples = [line.split() for line in open(os.path.join(here, 'examples.txt')) if line.strip() and line[0] != '#']
+def examples():
+    """The examples of examples.txt: name, width, table, and the four counts."""
+    for line in (HERE / 'examples.txt').read_text().splitlines():
+        if line and not line.startswith('#'):
+            name, width, table, *said = line.split()
+            assert len(table) == 2 ** int(width) and set(table) <= set('01-') and len(said) == 4, line
+            yield name, int(width), table, [int(count) for count in said]
+
+
+def in_the_program():
+    """The same of the program's source: name, width, table."""
+    for name, width, table in re.findall(r'example\(\s*b"([^"]*)",\s*(\d+),\s*b"([^"]*)",?\s*\)', (CRATE / 'src' / 'documents.rt').read_text()):
+        yield name, int(width), table
+
+
+def sections(text):
+    """The sections of what the program prints, by name. `rt check` holds the program to that file."""
+    return {part.split('\n')[0]: part for part in re.findall(r'^\S.*\n(?: .*\n)*', text, re.M)}
+
+
+def check():
     done = wrong = 0
-    for name, width, table, *said in examples:
-        if names and name not in names:
-            continue
-        assert len(table) == 2 ** int(width) and set(table) <= set('01-'), name
+
+    def expect(ok, *what):
+        nonlocal done, wrong
         done += 1
-        all_primes, essential, (rows, tested) = compute(int(width), table)
-        counts = [len(all_primes), len(essential), rows, tested]
-        if names:
-            print(name, *(q + '*' * (q in essential) for q in all_primes), *counts)
-        lines = [listing('primes', all_primes), listing('essentials', essential), '  plan rows %d bits %d' % (rows, tested)]
-        if counts != [int(x) for x in said]:
+        if not ok:
             wrong += 1
-            print(name, 'says', *said, 'and is', *counts)
-        elif program.get(name, [])[:3] != lines:
-            wrong += 1
-            print(name, 'is printed as', *program.get(name, []), 'and is', *lines)
+            print(*what)
+
+    listed, run = [(name, width, table) for name, width, table, _ in examples()], list(in_the_program())
+    for example in sorted(set(listed) ^ set(run)):
+        expect(False, *example, 'is in', 'examples.txt alone' if example in listed else 'the program alone')
+    expect(listed == run, 'examples.txt and the program do not have the same examples in the same order')
+    output, whole = (CRATE / 'stdout').read_text(), ''
+    printed = sections(output)
+    for name, width, table, said in examples():
+        all_primes, essential, shortest_list = found = compute(width, table)
+        counts = [len(all_primes), len(essential), *shortest_list]
+        expect(counts == said, name, 'says', *said, 'and is', *counts)
+        expect(printed.get(name) == section(name, found), name, 'is printed as\n%s\nand is\n%s' % (printed.get(name), section(name, found)))
+        whole += section(name, found)
+    expect(output == whole, 'the program prints more or less than the examples, or in another order')
     print('%d passed, %d failed' % (done - wrong, wrong))
-    return 1 if wrong or not done else 0
+    return wrong != 0
+
+
+def main(words):
+    if not words:
+        return check()
+    for name, width, table, _ in examples():
+        if words == ['--print']:
+            print(section(name, compute(width, table)), end='')
+        elif name in words:
+            all_primes, essential, (rows, tested) = compute(width, table)
+            print(name, *(q + '*' * (q in essential) for q in all_primes), len(all_primes), len(essential), rows, tested)
+    return 0
 
 
 if __name__ == '__main__':

@@ -1,90 +1,72 @@
-/* Compares rows_plan and rows_check with programs that share no code with them and are meant to be obviously right:
- *   - every table of widths 1, 2 and 3 with every set of at most 2^(n-1) cubes;
- *   - random tables of widths 1 to 6 with at most 16 wanted codes with dynamic programming over the sets of wanted codes;
- *   - tables of the files given as arguments, whose rows and bits are known, each within a quarter of a second;
- *   - random lists with trying every code.
- * Each list that rows_plan writes is checked and tried on all codes. Prints each failure, and at the end 'N passed, 0 failed'. */
+/* Compares the lists that rows_plan writes with what programs find that share no code with it and are meant to be obviously right:
+ *   - for every table of widths 1, 2 and 3, by trying every set of at most 2^(n-1) cubes;
+ *   - for random tables of widths 1 to 6 with at most 16 wanted codes, by the sets of wanted codes;
+ *   - for the tables of the files given, whose rows and bits are known, each within so many seconds of the processor's time.
+ * Each list is tried on all codes, and checked by rows_check. All this is done with the stack that rows.h asks for, 1 MB, and memory behind it that nobody may
+ * touch. Prints each failure, and at the end 'N passed, 0 failed'.
+ *
+ *     compare FILE COUNT SECONDS ..       files of tables, how many tables each has, and the time for one */
+#include <pthread.h>
 #include <stdio.h>
 #include <stdlib.h>
 #include <string.h>
 #include <time.h>
 
+#include "../meanings.h"
 #include "rows.h"
 
 static long passed, failed;
 
-static void count(int ok, const char *what, int n, const uint8_t *table) {
+static void count(int ok, const char *what, size_t n, const uint8_t *table) {
     if (ok) {
         passed++;
         return;
     }
     failed++;
-    printf("%s: %d ", what, n);
-    for (int c = 0; c < 1 << n; c++) {
+    printf("%s: %zu ", what, n);
+    for (size_t c = 0; c < power(2, n); c++) {
         putchar("01-"[table[c]]);
     }
     putchar('\n');
 }
 
-/* A cube by its digits: value and care. */
-struct cube {
-    int value, care, bits;
-};
-
-static struct cube cubes[729];
-static int cube_count;
-
-static void list_cubes(int n) {
-    cube_count = 0;
-    for (int care = 0; care < 1 << n; care++) {
-        for (int value = 0; value < 1 << n; value++) {
-            if ((value & ~care) == 0) {
-                cubes[cube_count++] = (struct cube){value, care, __builtin_popcount((unsigned)care)};
-            }
-        }
-    }
-}
-
-static int matches(int value, int care, int code) { return (code & care) == value; }
-
-/* The implicants of a table, each with the set of wanted codes that it matches, numbered in ascending order. */
+/* The implicants of a table that match a wanted code, each with the set of those that it matches, the lowest wanted code first, and its tested bits. */
 struct implicant {
-    uint32_t wanted;
-    int bits;
+    uint64_t wanted;
+    int32_t bits;
 };
 
-static struct implicant implicants[729];
-static int implicant_count, wanted_count;
+static struct implicant implicants[MOST_CUBES];
+static size_t implicant_count, wanted_count;
 
-static void list_implicants(int n, const uint8_t *table) {
+static void list_implicants(size_t n, const uint8_t *table) {
     implicant_count = 0;
-    for (int i = 0; i < cube_count; i++) {
-        uint32_t wanted = 0;
-        int barred = 0, at = 0;
-        for (int c = 0; c < 1 << n; c++) {
-            int hit = matches(cubes[i].value, cubes[i].care, c);
+    for (size_t q = 0; q < power(3, n); q++) {
+        struct row row = row_of(n, q);
+        struct implicant i = {0, (int32_t)ones(row.care)};
+        int barred = 0;
+        wanted_count = 0;
+        for (size_t c = 0, end = power(2, n); c < end; c++) {
+            uint64_t hit = (uint64_t)matches(row, c);
             barred |= hit && table[c] == 0;
             if (table[c] == 1) {
-                wanted |= (uint32_t)hit << at++;
+                i.wanted |= hit << wanted_count++;
             }
         }
-        wanted_count = at;
-        if (!barred && wanted != 0) {
-            implicants[implicant_count++] = (struct implicant){wanted, cubes[i].bits};
+        if (!barred && i.wanted != 0) {
+            implicants[implicant_count++] = i;
         }
     }
 }
 
-/* 10000 * rows + bits of the best cover, by the sets of wanted codes: the lowest code that is left takes an implicant. */
-static int32_t best[1 << 16];
-
-static int32_t by_sets(int n, const uint8_t *table) {
-    list_implicants(n, table);
+/* 10000 * rows + bits of the best list, by the sets of wanted codes: the lowest code that is left takes an implicant. */
+static int32_t by_sets(void) {
+    static int32_t best[1 << 16];
     best[0] = 0;
-    for (uint32_t left = 1; left < (uint32_t)1 << wanted_count; left++) {
-        uint32_t low = left & -left;
+    for (uint64_t left = 1; left < (uint64_t)1 << wanted_count; left++) {
+        uint64_t low = left & -left;
         int32_t least = INT32_MAX;
-        for (int i = 0; i < implicant_count; i++) {
+        for (size_t i = 0; i < implicant_count; i++) {
             if (implicants[i].wanted & low) {
                 int32_t with = best[left & ~implicants[i].wanted] + 10000 + implicants[i].bits;
                 least = with < least ? with : least;
@@ -92,193 +74,148 @@ static int32_t by_sets(int n, const uint8_t *table) {
         }
         best[left] = least;
     }
-    return best[((uint32_t)1 << wanted_count) - 1];
+    return best[((uint64_t)1 << wanted_count) - 1];
 }
 
-/* The same by trying every set of at most `most` cubes. */
-static int32_t tried;
-
-static void try_from(int n, const uint8_t *table, int from, int most, int64_t matched, int32_t weight) {
-    int right = 1;
-    for (int c = 0; c < 1 << n; c++) {
-        right &= table[c] != 1 || (matched >> c & 1);
+/* The same, by trying every set of at most `most` implicants from one on, with `left` the wanted codes that are not matched yet. */
+static int32_t by_trying(size_t from, size_t most, uint64_t left) {
+    if (left == 0) {
+        return 0;
     }
-    if (right && weight < tried) {
-        tried = weight;
+    int32_t least = INT32_MAX / 2;
+    for (size_t i = from; most > 0 && i < implicant_count; i++) {
+        int32_t with = 10000 + implicants[i].bits + by_trying(i + 1, most - 1, left & ~implicants[i].wanted);
+        least = with < least ? with : least;
     }
-    if (most == 0) {
-        return;
-    }
-    for (int i = from; i < cube_count; i++) {
-        int64_t also = matched;
-        int barred = 0;
-        for (int c = 0; c < 1 << n; c++) {
-            if (matches(cubes[i].value, cubes[i].care, c)) {
-                also |= (int64_t)1 << c;
-                barred |= table[c] == 0;
-            }
-        }
-        if (!barred) {
-            try_from(n, table, i + 1, most - 1, also, weight + 10000 + cubes[i].bits);
-        }
-    }
-}
-
-static int32_t by_trying(int n, const uint8_t *table) {
-    tried = INT32_MAX;
-    try_from(n, table, 0, 1 << (n - 1), 0, 0);
-    return tried;
-}
-
-/* What Check must answer for a formed list, by trying every code. */
-static int32_t verdict(int n, const uint8_t *table, const uint8_t *values, const uint8_t *cares, int rows) {
-    for (int c = 0; c < 1 << n; c++) {
-        int hit = 0;
-        for (int i = 0; i < rows; i++) {
-            hit |= matches(values[i], cares[i], c);
-        }
-        if (table[c] == 1 && !hit) {
-            return 1 + c;
-        }
-        if (table[c] == 0 && hit) {
-            return 257 + c;
-        }
-    }
-    return 0;
+    return least;
 }
 
 static double slowest;
 
+static double seconds(void) {
+    struct timespec now;
+    clock_gettime(CLOCK_PROCESS_CPUTIME_ID, &now);
+    return (double)now.tv_sec + 1e-9 * (double)now.tv_nsec;
+}
+
 /* Plans a table: the list must have this number, be right, and be formed. */
-static void plan(int n, const uint8_t *table, int32_t number) {
-    uint8_t values[64], cares[64];
-    size_t codes = (size_t)1 << n;
+static void plan(size_t n, const uint8_t *table, int32_t number) {
+    uint8_t values[MOST_CODES], cares[MOST_CODES];
+    size_t codes = power(2, n);
     memset(values, 255, sizeof values);
     memset(cares, 255, sizeof cares);
-    struct timespec start, end;
-    clock_gettime(CLOCK_MONOTONIC, &start);
-    int32_t r = rows_plan((size_t)n, table, codes, values, codes, cares, codes);
-    clock_gettime(CLOCK_MONOTONIC, &end);
-    double took = (double)(end.tv_sec - start.tv_sec) + 1e-9 * (double)(end.tv_nsec - start.tv_nsec);
+    double start = seconds();
+    int32_t answer = rows_plan(n, table, codes, values, codes, cares, codes);
+    double took = seconds() - start;
     slowest = took > slowest ? took : slowest;
-    count(r == number, "another number of rows and bits", n, table);
-    int rows = r < 0 ? 0 : r / 10000, bits = 0;
-    for (int i = 0; i < rows; i++) {
-        bits += __builtin_popcount(cares[i]);
+    count(answer == number, "another number of rows and bits", n, table);
+    size_t rows = answer < 0 || answer / 10000 > MOST_CODES ? 0 : (size_t)answer / 10000;
+    int32_t bits = 0;
+    for (size_t i = 0; i < rows; i++) {
+        bits += (int32_t)ones(cares[i]);
     }
-    count(r >= 0 && bits == r % 10000, "other bits than answered", n, table);
+    count(answer >= 0 && bits == answer % 10000, "other bits than answered", n, table);
     count(verdict(n, table, values, cares, rows) == 0, "a list that is not right", n, table);
-    count(rows_check((size_t)n, table, codes, values, (size_t)rows, cares, (size_t)rows) == 0, "a list that Check does not pass", n, table);
+    count(rows_check(n, table, codes, values, rows, cares, rows) == 0, "a list that Check does not pass", n, table);
 }
 
-static void all_tables(int n) {
+static void all_tables(size_t n) {
     uint8_t table[8];
-    long tables = 1;
-    for (int c = 0; c < 1 << n; c++) {
-        tables *= 3;
-    }
-    list_cubes(n);
-    for (long t = 0; t < tables; t++) {
-        long rest = t;
-        for (int c = 0; c < 1 << n; c++) {
+    for (size_t number = 0; number < power(3, power(2, n)); number++) {
+        for (size_t c = 0, rest = number; c < power(2, n); c++, rest /= 3) {
             table[c] = (uint8_t)(rest % 3);
-            rest /= 3;
         }
-        plan(n, table, by_trying(n, table));
+        list_implicants(n, table);
+        plan(n, table, by_trying(0, power(2, n - 1), ((uint64_t)1 << wanted_count) - 1));
     }
 }
 
-static uint64_t state = 88172645463325252u;
-
-static unsigned random_below(unsigned n) {
-    state ^= state << 13;
-    state ^= state >> 7;
-    state ^= state << 17;
-    return (unsigned)(state >> 33) % n;
-}
-
-/* A random table with at most `most` wanted codes, and a share of free ones out of eight. */
-static void random_table(int n, uint8_t *table, int most, unsigned share) {
-    for (int c = 0; c < 1 << n; c++) {
-        table[c] = random_below(8) < share ? 2 : 0;
-    }
-    for (int i = 0; i < most; i++) {
-        table[random_below(1u << n)] = 1;
-    }
-}
-
-static void random_tables(int n, int tables, int most) {
-    uint8_t table[64];
-    list_cubes(n);
-    for (int t = 0; t < tables; t++) {
-        random_table(n, table, most, random_below(7));
-        plan(n, table, by_sets(n, table));
-    }
-}
-
-/* Random lists, and lists of a plan with a row damaged, against trying every code. */
-static void random_lists(int n, int lists) {
-    uint8_t table[64], values[255], cares[255];
-    size_t codes = (size_t)1 << n;
-    for (int t = 0; t < lists; t++) {
-        random_table(n, table, 1 << (n - 1), random_below(7));
-        int rows;
-        if (t % 2 == 0) {
-            rows = (int)random_below(6);
-            for (int i = 0; i < rows; i++) {
-                cares[i] = (uint8_t)random_below(1u << n);
-                values[i] = (uint8_t)(random_below(1u << n) & cares[i]);
-            }
-        } else {
-            rows = rows_plan((size_t)n, table, codes, values, codes, cares, codes) / 10000;
-            if (rows > 0) {
-                unsigned i = random_below((unsigned)rows);
-                cares[i] = (uint8_t)(cares[i] ^ 1u << random_below((unsigned)n));
-                values[i] &= cares[i];
-            }
+/* Random tables with at most `most` wanted codes. */
+static void random_tables(size_t n, size_t tables, size_t most) {
+    uint8_t table[MOST_CODES];
+    for (size_t t = 0; t < tables; t++) {
+        random_table(n, table, 0, random_below(7));
+        for (size_t i = 0; i < most; i++) {
+            table[random_below(power(2, n))] = 1;
         }
-        int32_t want = verdict(n, table, values, cares, rows);
-        count(rows_check((size_t)n, table, codes, values, (size_t)rows, cares, (size_t)rows) == want, "another verdict", n, table);
+        list_implicants(n, table);
+        plan(n, table, by_sets());
     }
 }
 
-/* Tables whose rows and bits are known: width, cells, rows, bits. */
-static void known_tables(const char *path) {
+/* A line of a file of tables: width, cells, rows, bits. Answers whether it has that form. */
+static int known_table(const char *line) {
+    char cells[MOST_CODES + 1], more;
+    uint8_t table[MOST_CODES];
+    size_t n;
+    int rows, bits;
+    if (sscanf(line, "%zu %64s %d %d %c", &n, cells, &rows, &bits, &more) != 4 || n < 1 || n > WIDEST) {
+        return 0;
+    }
+    if (strlen(cells) != power(2, n) || strspn(cells, "01-") != power(2, n)) {
+        return 0;
+    }
+    for (size_t c = 0; c < power(2, n); c++) {
+        table[c] = (uint8_t)(cells[c] == '-' ? 2 : cells[c] - '0');
+    }
+    plan(n, table, 10000 * rows + bits);
+    return 1;
+}
+
+/* The tables of a file, of which there must be so many, none slower than this. */
+static void known_tables(const char *path, long expected, double most) {
     FILE *f = fopen(path, "r");
     if (f == NULL) {
         perror(path);
         exit(2);
     }
-    char cells[65];
-    int n, rows, bits;
-    while (fscanf(f, "%d %64s %d %d", &n, cells, &rows, &bits) == 4) {
-        uint8_t table[64];
-        for (int c = 0; c < 1 << n; c++) {
-            table[c] = (uint8_t)(cells[c] == '-' ? 2 : cells[c] - '0');
+    char line[200];
+    long tables = 0;
+    slowest = 0;
+    for (; fgets(line, sizeof line, f) != NULL; tables++) {
+        if (!known_table(line)) {
+            failed++;
+            printf("%s: line %ld is not a table: %s", path, tables + 1, line);
         }
-        plan(n, table, 10000 * rows + bits);
     }
     fclose(f);
+    if (tables != expected || slowest > most) {
+        failed++;
+        printf("%s: %ld tables, expected %ld; the slowest took %.3f s, allowed %.3f s\n", path, tables, expected, slowest, most);
+    } else {
+        passed++;
+    }
+}
+
+/* The arguments of the program, ended by NULL. */
+static char **arguments;
+
+static void *compare(void *unused) {
+    for (size_t n = 1; n <= 3; n++) {
+        all_tables(n);
+    }
+    for (size_t n = 1; n <= WIDEST; n++) {
+        random_tables(n, 800, 11);
+        random_tables(n, 100, 16);
+    }
+    for (char **file = arguments; *file != NULL; file += 3) {
+        known_tables(file[0], atol(file[1]), atof(file[2]));
+    }
+    return unused;
 }
 
 int main(int argc, char **argv) {
-    for (int n = 1; n <= 3; n++) {
-        all_tables(n);
+    pthread_attr_t attributes;
+    pthread_t thread;
+    if (argc % 3 != 1) {
+        fprintf(stderr, "usage: compare FILE COUNT SECONDS ..\n");
+        return 2;
     }
-    for (int n = 1; n <= 6; n++) {
-        random_tables(n, 800, 11);
-        random_tables(n, 100, 16);
-        random_lists(n, 1000);
-    }
-    slowest = 0;
-    for (int i = 1; i < argc; i++) {
-        known_tables(argv[i]);
-    }
-    if (slowest > 0.25) {
-        failed++;
-        printf("a known table took %.3f s\n", slowest);
-    } else {
-        passed++;
+    arguments = argv + 1;
+    if (pthread_attr_init(&attributes) || pthread_attr_setstacksize(&attributes, 1 << 20) || pthread_attr_setguardsize(&attributes, 1 << 20) ||
+        pthread_create(&thread, &attributes, compare, NULL) || pthread_join(thread, NULL)) {
+        fprintf(stderr, "no thread\n");
+        return 2;
     }
     printf("%ld passed, %ld failed\n", passed, failed);
     return failed != 0;

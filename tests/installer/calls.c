@@ -1,0 +1,181 @@
+#include <stdio.h>
+
+#include "client.h"
+
+/* What is refused, in the order of document 01: the number of the first condition that holds, or 0. */
+
+static int refuses_width(size_t n) { return n < 1 || n > 6 ? 1 : 0; }
+
+static int refuses_cube(size_t n, size_t cube) {
+    if (refuses_width(n)) {
+        return 1;
+    }
+    return cube >= power(3, n) ? 8 : 0;
+}
+
+static int refuses_table(size_t n, const uint8_t *table, size_t table_len) {
+    if (refuses_width(n)) {
+        return 1;
+    }
+    if (table_len != power(2, n)) {
+        return 2;
+    }
+    for (size_t c = 0; c < table_len; c++) {
+        if (table[c] > 2) {
+            return 3;
+        }
+    }
+    return 0;
+}
+
+static int refuses_list(size_t n, const uint8_t *values, size_t values_len, const uint8_t *cares, size_t cares_len) {
+    if (values_len != cares_len) {
+        return 5;
+    }
+    if (values_len > 255) {
+        return 6;
+    }
+    for (size_t i = 0; i < values_len; i++) {
+        if (!formed(n, (struct row){values[i], cares[i]})) {
+            return 7;
+        }
+    }
+    return 0;
+}
+
+/* Bytes as text, for a failure: a digit each, `+` above 9. */
+static const char *text(const uint8_t *bytes, size_t len) {
+    static char shown[MOST_BYTES + 1];
+    for (size_t i = 0; i < len; i++) {
+        shown[i] = bytes[i] > 9 ? '+' : (char)('0' + bytes[i]);
+    }
+    shown[len] = 0;
+    return shown;
+}
+
+static const char *word(int right) { return right ? "right" : "wrong"; }
+
+int32_t try_spell(size_t n, size_t cube) {
+    uint8_t *value = lend_random(0, 1), *care = lend_random(1, 1);
+    int k = refuses_cube(n, cube);
+    calling = "rows_spell";
+    int32_t answer = rows_spell(n, cube, value, care);
+    int right = kept(0, k ? 0 : 1) && kept(1, k ? 0 : 1);
+    if (!k) {
+        struct row row = row_of(n, cube);
+        right = right && *value == row.value && *care == row.care;
+    }
+    expect(answer == -k && right, "rows_spell(%zu, %zu): %d, expected %d; lent memory is %s", n, cube, answer, -k, word(right));
+    return answer;
+}
+
+int32_t try_cells(size_t n, size_t cube, size_t codes_len) {
+    uint8_t *codes = lend_random(0, codes_len);
+    int k = refuses_cube(n, cube);
+    k = k ? k : codes_len < power(2, n) ? 4 : 0;
+    calling = "rows_cells";
+    int32_t answer = rows_cells(n, cube, codes, codes_len), count = 0;
+    int right = 1;
+    for (size_t c = 0; !k && c < power(2, n); c++) {
+        if (matches(row_of(n, cube), c)) {
+            right = right && codes[count++] == c;
+        }
+    }
+    right = right && kept(0, (size_t)count);
+    int32_t want = k ? -k : count;
+    expect(answer == want && right, "rows_cells(%zu, %zu, %zu places): %d, expected %d; lent memory is %s", n, cube, codes_len, answer, want, word(right));
+    return answer;
+}
+
+/* Primes or Essentials. */
+static int32_t try_listing(int essentials, size_t n, const uint8_t *cells, size_t table_len, size_t cubes_len) {
+    struct term primes[MOST_CUBES];
+    uint8_t *table = lend(0, cells, table_len);
+    uint16_t *cubes = lend_random(1, cubes_len * sizeof *cubes);
+    int k = refuses_table(n, cells, table_len);
+    k = k ? k : cubes_len < power(3, n) ? 4 : 0;
+    calling = essentials ? "rows_essentials" : "rows_primes";
+    int32_t answer = (essentials ? rows_essentials : rows_primes)(n, table, table_len, cubes, cubes_len), count = 0;
+    size_t all = k ? 0 : find_primes(n, cells, primes);
+    int right = kept(0, 0);
+    for (size_t i = 0; i < all; i++) {
+        if (!essentials || primes[i].essential) {
+            right = right && cubes[count++] == primes[i].cube;
+        }
+    }
+    right = right && kept(1, (size_t)count * sizeof *cubes);
+    int32_t want = k ? -k : count;
+    expect(answer == want && right, "%s(%zu, %s, %zu places): %d, expected %d; lent memory is %s", calling, n, text(cells, table_len), cubes_len, answer, want,
+           word(right));
+    return answer;
+}
+
+int32_t try_primes(size_t n, const uint8_t *table, size_t table_len, size_t cubes_len) { return try_listing(0, n, table, table_len, cubes_len); }
+
+int32_t try_essentials(size_t n, const uint8_t *table, size_t table_len, size_t cubes_len) { return try_listing(1, n, table, table_len, cubes_len); }
+
+/* Whether a list is formed, right for the table, ascending by cube number, and has so many tested bits. Whether a shorter one exists is compared by
+ * tests/minimum. */
+static int planned(size_t n, const uint8_t *table, const uint8_t *values, const uint8_t *cares, size_t rows, unsigned bits) {
+    int ok = verdict(n, table, values, cares, rows) == 0;
+    unsigned tested = 0;
+    for (size_t i = 0; i < rows; i++) {
+        struct row row = {values[i], cares[i]};
+        ok = ok && formed(n, row) && (i == 0 || cube_of(n, (struct row){values[i - 1], cares[i - 1]}) < cube_of(n, row));
+        tested += ones(row.care);
+    }
+    return ok && tested == bits;
+}
+
+int32_t try_plan(size_t n, const uint8_t *cells, size_t table_len, size_t values_len, size_t cares_len) {
+    uint8_t *table = lend(0, cells, table_len), *values = lend_random(1, values_len), *cares = lend_random(2, cares_len);
+    int k = refuses_table(n, cells, table_len);
+    k = k ? k : values_len < power(2, n) || cares_len < power(2, n) ? 4 : 0;
+    calling = "rows_plan";
+    int32_t answer = rows_plan(n, table, table_len, values, values_len, cares, cares_len);
+    int right = kept(0, 0);
+    if (k) {
+        right = right && answer == -k && kept(1, 0) && kept(2, 0);
+    } else {
+        size_t rows = (size_t)answer / 10000;
+        right = right && answer >= 0 && rows <= power(2, n) && kept(1, rows) && kept(2, rows);
+        right = right && planned(n, cells, values, cares, rows, (unsigned)answer % 10000);
+    }
+    expect(right, "rows_plan(%zu, %s, %zu and %zu places): %d, refusal expected: %d", n, text(cells, table_len), values_len, cares_len, answer, -k);
+    return answer;
+}
+
+int32_t try_check(size_t n, const uint8_t *cells, size_t table_len, const uint8_t *list_values, size_t values_len, const uint8_t *list_cares,
+                  size_t cares_len) {
+    uint8_t *table = lend(0, cells, table_len), *values = lend(1, list_values, values_len), *cares = lend(2, list_cares, cares_len);
+    int k = refuses_table(n, cells, table_len);
+    k = k ? k : refuses_list(n, list_values, values_len, list_cares, cares_len);
+    calling = "rows_check";
+    int32_t answer = rows_check(n, table, table_len, values, values_len, cares, cares_len);
+    int32_t want = k ? -k : verdict(n, cells, list_values, list_cares, values_len);
+    int right = kept(0, 0) && kept(1, 0) && kept(2, 0);
+    expect(answer == want && right, "rows_check(%zu, %s, %zu values, %zu cares): %d, expected %d; lent memory is %s", n, text(cells, table_len), values_len,
+           cares_len, answer, want, word(right));
+    return answer;
+}
+
+int32_t try_write(size_t n, const uint8_t *list_values, size_t values_len, const uint8_t *list_cares, size_t cares_len, size_t file_len) {
+    uint8_t *values = lend(0, list_values, values_len), *cares = lend(1, list_cares, cares_len), *file = lend_random(2, file_len);
+    int k = refuses_width(n);
+    k = k ? k : refuses_list(n, list_values, values_len, list_cares, cares_len);
+    k = k ? k : file_len < 2 + 2 * values_len ? 4 : 0;
+    calling = "rows_write";
+    int32_t answer = rows_write(n, values, values_len, cares, cares_len, file, file_len);
+    size_t used = k ? 0 : 2 + 2 * values_len;
+    int right = kept(0, 0) && kept(1, 0) && kept(2, used);
+    if (!k) {
+        right = right && file[0] == n && file[1] == values_len;
+        for (size_t i = 0; i < values_len; i++) {
+            right = right && file[2 + i] == list_values[i] && file[2 + values_len + i] == list_cares[i];
+        }
+    }
+    int32_t want = k ? -k : (int32_t)used;
+    expect(answer == want && right, "rows_write(%zu, %zu values, %zu cares, %zu bytes): %d, expected %d; lent memory is %s", n, values_len, cares_len, file_len,
+           answer, want, word(right));
+    return answer;
+}

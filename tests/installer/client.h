@@ -1,0 +1,65 @@
+/* What the files of the client share. */
+#ifndef CLIENT_H
+#define CLIENT_H
+
+#include "../meanings.h"
+#include "rows.h"
+
+/* watch.c: expectations, and lent memory that is watched. */
+
+extern long passed, failed;
+
+/* Counts a test that passed, or one that failed and prints what it was. */
+void expect(int ok, const char *what, ...) __attribute__((format(printf, 2, 3)));
+
+enum { ARRAYS = 3, MOST_BYTES = 20000 };
+
+/* The call that is made; printed should it touch memory that was not lent. */
+extern const char *calling;
+
+/* Lends array number `which`, with these contents or with random ones. It lies within a larger one: by chance it begins or ends where memory lies that nobody
+ * may touch; its own bytes and those on its other side are remembered. It is good until that number is lent again. */
+void *lend(size_t which, const void *contents, size_t bytes);
+void *lend_random(size_t which, size_t bytes);
+
+/* Whether everything but the first `used` bytes of that array is as it was lent. */
+int kept(size_t which, size_t used);
+
+/* calls.c: one call each, whose answer and lent memory are compared with what document 01 says. They answer what the call answered. */
+int32_t try_spell(size_t n, size_t cube);
+int32_t try_cells(size_t n, size_t cube, size_t codes_len);
+int32_t try_primes(size_t n, const uint8_t *table, size_t table_len, size_t cubes_len);
+int32_t try_essentials(size_t n, const uint8_t *table, size_t table_len, size_t cubes_len);
+int32_t try_plan(size_t n, const uint8_t *table, size_t table_len, size_t values_len, size_t cares_len);
+int32_t try_check(size_t n, const uint8_t *table, size_t table_len, const uint8_t *values, size_t values_len, const uint8_t *cares, size_t cares_len);
+int32_t try_write(size_t n, const uint8_t *values, size_t values_len, const uint8_t *cares, size_t cares_len, size_t file_len);
+
+/* client.c: the widths 1 to 6, then numbers that are no width. */
+extern const size_t widths[];
+extern const size_t width_count;
+
+/* The codes and the cubes of a width; of width 6 where the number is no width. */
+size_t codes(size_t n);
+size_t cubes(size_t n);
+
+#define LENGTH(array) (sizeof(array) / sizeof((array)[0]))
+
+/* What is tried. cubes.c: Spell and Cells. tables.c: Primes, Essentials and Plan. lists.c: Check and Write. edges.c: the sentences of "Codes at the edge"
+ * and the cases a to j, by their numbers in document 01, and very long arrays. */
+void every_cube(void);
+void places_for_codes(void);
+void every_small_table(void);
+void random_tables(void);
+void places_for_tables(void);
+void refusals_of_tables(void);
+void every_row(void);
+void every_small_list(void);
+void random_lists(void);
+void planned_lists(void);
+void refusals_of_check(void);
+void refusals_of_write(void);
+void edges(void);
+void cases(void);
+void long_arrays(void);
+
+#endif

@@ -1,0 +1,165 @@
+#include <stdio.h>
+#include <stdlib.h>
+#include <string.h>
+#include <sys/mman.h>
+
+#include "client.h"
+
+static uint8_t wanted[128], barred[128], rows[300];
+
+/* A call that must answer a number, and be right in all else. */
+static void answers(const char *sentence, int32_t answer, int32_t want) { expect(answer == want, "%s: %d, expected %d", sentence, answer, want); }
+
+/* Every call at one width that is refused, the rest being as it should be at width 6, or at that width where it has a table. */
+static void width_refused(size_t n, size_t cells) {
+    char sentence[40];
+    snprintf(sentence, sizeof sentence, "width %zu refuses", n);
+    answers(sentence, try_spell(n, 0), -1);
+    answers(sentence, try_cells(n, 0, 300), -1);
+    answers(sentence, try_primes(n, wanted, cells, 3000), -1);
+    answers(sentence, try_essentials(n, wanted, cells, 3000), -1);
+    answers(sentence, try_plan(n, wanted, cells, 300, 300), -1);
+    answers(sentence, try_check(n, wanted, cells, rows, 1, rows, 1), -1);
+    answers(sentence, try_write(n, rows, 1, rows, 1, 600), -1);
+}
+
+/* Every call at a width that is accepted, with the least memory that will do. Every code is wanted: one row that tests nothing matches them. */
+static void width_accepted(size_t n, size_t codes, size_t cubes) {
+    char sentence[40];
+    snprintf(sentence, sizeof sentence, "width %zu does not refuse", n);
+    answers(sentence, try_spell(n, cubes - 1), 0);
+    answers(sentence, try_cells(n, cubes - 1, codes), (int32_t)codes);
+    answers(sentence, try_primes(n, wanted, codes, cubes), 1);
+    answers(sentence, try_essentials(n, wanted, codes, cubes), 1);
+    answers(sentence, try_plan(n, wanted, codes, codes, codes), 10000);
+    answers(sentence, try_check(n, wanted, codes, rows, 1, rows, 1), 0);
+    answers(sentence, try_write(n, rows, 1, rows, 1, 4), 4);
+}
+
+/* A table that every call on a table refuses, or none does, with places enough. */
+static void table(const char *sentence, const uint8_t *cells, size_t len, int32_t primes, int32_t essentials, int32_t plan, int32_t check) {
+    answers(sentence, try_primes(6, cells, len, 729), primes);
+    answers(sentence, try_essentials(6, cells, len, 729), essentials);
+    answers(sentence, try_plan(6, cells, len, 64, 64), plan);
+    answers(sentence, try_check(6, cells, len, rows, 0, rows, 0), check);
+}
+
+static void cells_at_the_edge(void) {
+    uint8_t cells[64];
+    table("63 cells refuse", wanted, 63, -2, -2, -2, -2);
+    table("65 cells refuse", wanted, 65, -2, -2, -2, -2);
+    for (size_t c = 0; c < 64; c++) {
+        memset(cells, 0, 64);
+        cells[c] = 2;
+        table("cell 2 passes", cells, 64, 1, 0, 0, 0);
+        cells[c] = 3;
+        table("cell 3 refuses", cells, 64, -3, -3, -3, -3);
+        cells[c] = 1;
+        table("one wanted code", cells, 64, 1, 1, 10006, 1 + (int32_t)c);
+    }
+}
+
+static void lists_at_the_edge(void) {
+    uint8_t values[300] = {0}, cares[300];
+    memset(cares, 63, sizeof cares);
+    answers("care 63 is formed", try_check(6, barred, 64, values, 1, cares, 1), 257);
+    answers("care 63 is formed", try_write(6, values, 1, cares, 1, 4), 4);
+    answers("255 rows pass Check", try_check(6, barred, 64, values, 255, cares, 255), 257);
+    answers("255 rows pass Write", try_write(6, values, 255, cares, 255, 512), 512);
+    answers("255 rows need 512 bytes", try_write(6, values, 255, cares, 255, 511), -4);
+    answers("256 rows refuse", try_check(6, barred, 64, values, 256, cares, 256), -6);
+    answers("256 rows refuse", try_write(6, values, 256, cares, 256, 600), -6);
+    cares[0] = 64;
+    answers("care 64 is not formed", try_check(6, barred, 64, values, 1, cares, 1), -7);
+    answers("care 64 is not formed", try_write(6, values, 1, cares, 1, 4), -7);
+    answers("an empty list is allowed", try_check(6, barred, 64, values, 0, cares, 0), 0);
+    answers("an empty list is allowed", try_check(6, wanted, 64, values, 0, cares, 0), 1);
+    answers("an empty list is allowed", try_write(6, values, 0, cares, 0, 2), 2);
+    answers("an empty list needs 2 bytes", try_write(6, values, 0, cares, 0, 1), -4);
+}
+
+/* Each sentence of "Codes at the edge", for each call that it concerns. */
+void edges(void) {
+    memset(wanted, 1, sizeof wanted);
+    width_refused(0, 1);
+    width_refused(7, 128);
+    width_accepted(1, 2, 3);
+    width_accepted(6, 64, 729);
+    answers("number 728 spells", try_spell(6, 728), 0);
+    answers("number 729 refuses", try_spell(6, 729), -8);
+    answers("number 729 refuses", try_cells(6, 729, 64), -8);
+    answers("Plan arrays of 63 refuse", try_plan(6, wanted, 64, 63, 64), -4);
+    answers("Plan arrays of 63 refuse", try_plan(6, wanted, 64, 64, 63), -4);
+    answers("Plan arrays of 64 pass", try_plan(6, wanted, 64, 64, 64), 10000);
+    cells_at_the_edge();
+    lists_at_the_edge();
+}
+
+struct example {
+    const char *name, *cells;
+    size_t n;
+    int primes, essentials, rows, bits;
+};
+
+static const struct example examples[] = {
+    {"a", "00", 1, 0, 0, 0, 0},
+    {"b", "11", 1, 1, 1, 1, 0},
+    {"c", "0201", 2, 1, 1, 1, 1},
+    {"d", "1002", 2, 2, 1, 1, 2},
+    {"e", "01111110", 3, 6, 0, 3, 6},
+    {"f", "0000000101101111", 4, 4, 4, 4, 11},
+    {"g", "1111101111010001", 4, 6, 3, 3, 6},
+    {"h", "1100000011100000", 4, 2, 2, 2, 5},
+    {"i", "1111011010010000", 4, 5, 4, 4, 12},
+    {"j", "1110011101110111", 4, 8, 0, 4, 9},
+};
+
+/* The cases a to j, and the tables whose list has the most rows: the codes with an odd number of ones, and those with an even number. */
+void cases(void) {
+    uint8_t cells[64];
+    for (size_t i = 0; i < sizeof examples / sizeof examples[0]; i++) {
+        const struct example *e = &examples[i];
+        size_t codes = strlen(e->cells);
+        for (size_t c = 0; c < codes; c++) {
+            cells[c] = (uint8_t)(e->cells[c] - '0');
+        }
+        answers(e->name, try_primes(e->n, cells, codes, 81), e->primes);
+        answers(e->name, try_essentials(e->n, cells, codes, 81), e->essentials);
+        answers(e->name, try_plan(e->n, cells, codes, codes, codes), 10000 * e->rows + e->bits);
+    }
+    for (unsigned odd = 0; odd < 2; odd++) {
+        for (unsigned c = 0; c < 64; c++) {
+            cells[c] = ones(c) % 2 == odd;
+        }
+        answers("the most rows", try_plan(6, cells, 64, 64, 64), 10000 * 32 + 32 * 6);
+    }
+}
+
+/* Arrays so long that their length is another one once it is cut to 32 bits. Nobody touches most of their pages. */
+void long_arrays(void) {
+    size_t more = (size_t)1 << 32, half = more + 4096;
+    uint8_t *large = mmap(NULL, 2 * half, PROT_READ | PROT_WRITE, MAP_PRIVATE | MAP_ANONYMOUS | MAP_NORESERVE, -1, 0);
+    if (large == MAP_FAILED) {
+        perror("mmap");
+        exit(2);
+    }
+    uint8_t *second = large + half, zeros[64] = {0}, file[300], other[64];
+    uint16_t cubes[729];
+    answers("2^32 + 64 cells", rows_primes(6, large, more + 64, cubes, 729), -2);
+    answers("2^32 + 64 cells", rows_essentials(6, large, more + 64, cubes, 729), -2);
+    answers("2^32 + 64 cells", rows_plan(6, large, more + 64, file, 64, other, 64), -2);
+    answers("2^32 + 64 cells", rows_check(6, large, more + 64, zeros, 1, rows, 1), -2);
+    answers("2^32 + 1 values, one care", rows_check(6, barred, 64, large, more + 1, zeros, 1), -5);
+    answers("2^32 + 1 values, one care", rows_write(6, large, more + 1, zeros, 1, file, 300), -5);
+    answers("one value, 2^32 + 1 cares", rows_check(6, barred, 64, zeros, 1, large, more + 1), -5);
+    answers("one value, 2^32 + 1 cares", rows_write(6, zeros, 1, large, more + 1, file, 300), -5);
+    answers("2^32 + 1 rows", rows_check(6, barred, 64, large, more + 1, second, more + 1), -6);
+    answers("2^32 + 1 rows", rows_write(6, large, more + 1, second, more + 1, file, 300), -6);
+    answers("2^32 + 1 places for codes", rows_cells(6, 728, large, more + 1), 64);
+    answers("2^32 + 1 places for primes", rows_primes(6, wanted, 64, (uint16_t *)large, more + 1), 1);
+    answers("2^32 + 1 places for essentials", rows_essentials(6, wanted, 64, (uint16_t *)large, more + 1), 1);
+    answers("2^32 + 1 places for values", rows_plan(6, wanted, 64, large, more + 1, other, 64), 10000);
+    answers("2^32 + 1 places for cares", rows_plan(6, wanted, 64, other, 64, large, more + 1), 10000);
+    answers("2^32 + 1 bytes for a file", rows_write(6, zeros, 1, rows, 1, large, more + 1), 4);
+    munmap(large, 2 * half);
+}

@@ -1,0 +1,45 @@
+/* The words of document 01 in a few lines of C each, by trying every code and every cube. The tests compare the product with them; the two share no code. */
+#ifndef MEANINGS_H
+#define MEANINGS_H
+
+#include <stddef.h>
+#include <stdint.h>
+
+enum { WIDEST = 6, MOST_CODES = 64, MOST_CUBES = 729 };
+
+struct row {
+    uint8_t value, care;
+};
+
+size_t power(size_t base, size_t exponent);
+unsigned ones(uint64_t word);
+
+int formed(size_t n, struct row row);
+int matches(struct row row, size_t code);
+struct row row_of(size_t n, size_t cube);
+size_t cube_of(size_t n, struct row row);
+
+/* The codes that a cube matches: bit c stands for code c. */
+uint64_t codes_of(size_t n, size_t cube);
+
+/* The primes of a table, ascending by cube number, with the wanted codes that each matches, its tested bits, and whether it is essential. */
+struct term {
+    uint16_t cube;
+    uint64_t wanted;
+    uint8_t tested;
+    int essential;
+};
+
+size_t find_primes(size_t n, const uint8_t *table, struct term *primes);
+
+/* What Check answers for a formed list, in C. */
+int32_t verdict(size_t n, const uint8_t *table, const uint8_t *values, const uint8_t *cares, size_t rows);
+
+/* The same numbers in each run. */
+uint64_t random_word(void);
+size_t random_below(size_t n);
+
+/* A table of random cells: `wanted` and `free` out of eight, the rest barred. */
+void random_table(size_t n, uint8_t *table, size_t wanted, size_t free);
+
+#endif
