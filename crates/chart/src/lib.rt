@@ -14,7 +14,8 @@ ghost use Rattle.cube.specs.Calls.{widest, answered, countAnswer};
 ghost use Rattle.chart.specs.Rows.{Charted};
 ghost use Rattle.chart.specs.Steps.{rowAt, arrayRows, Copyable, Prepares};
 
-// A chart row: cube number, code word, tested bits.
+// A chart row: cube number, code word, tested bits, laid out as C does.
+#[repr(C)]
 pub struct ChartRow {
     pub cube: u16,
     pub word: u64,
