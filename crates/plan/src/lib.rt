@@ -77,7 +77,12 @@ fn write_rows(n: usize, cubes: &[u16], count: usize, values: &mut [u8], cares: &
 }
 
 // The lightest selection of the first rows that covers the columns.
-fn lightest<'a>(words: &'a [u64], literals: &'a [u8], rows: usize, columns: columns::Set) -> Solution
+fn lightest<'a>(
+    words: &'a [u64],
+    literals: &'a [u8],
+    rows: usize,
+    columns: columns::Set,
+) -> Solution
     requires { ⌜ (rows ≤ 3 ^ widest) × (rows ≤ length (now words)) × (rows ≤ length (now literals)) ⌝ }
     ensures { λ r. ⌜ Lightest (take rows (now (words .entry))) (now (literals .entry)) columns r ⌝ }
 {
