@@ -1,5 +1,6 @@
 #!/usr/bin/env python3
-"""Holds the documents to the sources: what docs/PROMISES.md names is there, it names every must-fail edit, and README.md counts the believed pages rightly.
+"""Holds the documents to the sources: what docs/PROMISES.md names is there, it names every must-fail edit, and README.md lists the believed pages with all
+that they cite and counts their lines rightly.
 
     python3 check.py             prints each name that is not there, and at the end 'N passed, M failed'
     python3 check.py --pages     the believed pages that README.md lists, each with its number of lines, and their sum
@@ -68,12 +69,12 @@ def entries(path):
 
 
 def check_files(said):
-    """Each file that is named with its crate."""
-    for crate, name in re.findall(r"\(?\b([a-z_]+) `((?:proofs/)?[A-Z]\w*)`", said):
-        folder = CRATES / crate
-        if folder.is_dir() and not name.startswith("Refuted"):
-            place = folder / (name + ".antt") if name.startswith("proofs/") else folder / "specs" / (name + ".antt")
-            expect("%s in crate %s" % (name, crate), place.is_file() or (folder / "proofs" / (name + ".antt")).is_file())
+    """Each file that is named with its crate, and that it has the names in front of it."""
+    for names, crate, name in re.findall(r"((?:`[^`]+`[,:]?\s+)*)\(([a-z_]+) `([\w/]+)`\)", said):
+        page = CRATES / crate / ((name if "/" in name else "specs/" + name) + ".antt")
+        expect(page.relative_to(TOP), page.is_file())
+        for found in re.findall(r"`([\w-]+)(?:\.[\w-]+)?`", names):
+            expect("%s in %s" % (found, page.relative_to(TOP)), page.is_file() and word(found, page.read_text()))
 
 
 def check_promises():
@@ -112,6 +113,12 @@ def pages():
     return found
 
 
+def cited(page):
+    """The pages of this repository that a page imports from. What is generated from the types of the code is not written by hand."""
+    for crate, name in re.findall(r"^use Rattle·(\w+)(?:·specs\.specs|\.specs)\.([A-Z]\w*)", page.read_text(), re.M):
+        yield CRATES / crate / "specs" / (name + ".antt")
+
+
 def lines(page):
     return len(page.read_text().splitlines())
 
@@ -128,6 +135,8 @@ def main(words):
         expect("edit %s in docs/PROMISES.md" % edit, word(edit, promises))
     for page in pages():
         expect("%s, a page to believe" % page.relative_to(TOP), page.is_file())
+        for other in cited(page):
+            expect("%s among the pages to believe, as %s cites it" % (other.relative_to(TOP), page.relative_to(TOP)), other in pages())
     said = re.search(r"([\d,]+) lines\s+with their comments", (TOP / "README.md").read_text())
     total = sum(map(lines, filter(pathlib.Path.is_file, pages())))
     expect("README.md's number of believed lines, %d" % total, said is not None and int(said.group(1).replace(",", "")) == total)
