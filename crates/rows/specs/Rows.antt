@@ -1,5 +1,6 @@
--- What the program `rows` hands to standard output: the whole output for the whole of what was read. Of the bytes that a read leaves in its buffer
--- nothing is known, so the input is whatever the reads put there, one piece behind another. Assumes nothing.
+-- What the program `rows` hands to standard output: the whole output for the whole of what was read. Nothing is known of the bytes that a read
+-- delivers, so the promise is of some input; the proof takes for it what the reads put into their buffer, one piece behind another.
+-- Assumes nothing.
 use mathlib.Core.List.{List}
 use Prim.Native.Nat.{ℕ}
 use Rattle.reply.specs.Reply.{OutputFor}

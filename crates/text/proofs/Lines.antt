@@ -59,7 +59,7 @@ unfolding listLines
 lines-append n [] r = append-nil (rowLine n r)
 lines-append n (s ∷ rs) r = ap (λ (l : List ℕ). rowLine n s ++ l) (lines-append n rs r) ∙ sym (append-assoc (rowLine n s) (listLines n rs) (rowLine n r))
 
-pub line-length : (n : ℕ) (r : Row) → length (rowLine n r) ≡ n + 1
+line-length : (n : ℕ) (r : Row) → length (rowLine n r) ≡ n + 1
 line-length n r = length-append (run n 1 (characterOfVariable n r)) (lineFeed ∷ []) ∙ ap (λ (i : ℕ). i + 1) (run-length (characterOfVariable n r) n 1)
 
 pub lines-length : (n : ℕ) (rs : Cover) → n ≤ widest → length (listLines n rs) ≤ (widest + 1) * length rs

@@ -7,13 +7,14 @@
 //     close(all)      // width 2, and 4 cells in the buffer: 0 1 1 1
 //
 // The buffer is working memory: nothing is refused before the text is closed, and a text that is not in form may have left cells in it.
+use spelling::MOST_CODES;
 ghost use mathlib.Core.Path.{_≡_};
 ghost use mathlib.Core.List.{[], _∷_};
 ghost use Rattle.text.specs.Input.{cellOf};
 ghost use Rattle.text.specs.Steps.{Room, Takes, LeadsTo, Closes};
 
 // One cell more than the widest table has.
-pub const MOST_CELLS: usize = 65;
+pub const MOST_CELLS: usize = MOST_CODES + 1;
 
 // What the bytes so far are the beginning of.
 pub enum Reading {

@@ -18,9 +18,11 @@ enum-known-n c = search needs
 
 slice-aggregate-table : tie.Need-slice-aggregate-table
 slice-aggregate-table c =
-    let s = c .before .before .before .before .before .before .before in
-    let closed = c .before .before .before .before .close .ensures in
-    sym (length-take-le _ _ (le-trans (subst (λ (x : Text). tableCells x ≤ cellsKept (s .args .reading)) (c .before .before .n .given .1) (closed .few)) (le-trans (s .pre .0 .most) (s .pre .0 .places))))
+    let told = c .before .before in
+    let closed = told .before .before in
+    let s = closed .before .before .before in
+    let few = subst (λ (x : Text). tableCells x ≤ cellsKept (s .args .reading)) (told .n .given .1) (closed .close .ensures .few) in
+    sym (length-take-le _ _ (le-trans few (le-trans (s .pre .0 .most) (s .pre .0 .places))))
 
 table-requires : tie.Need-table-requires
 table-requires c κs = search needs
@@ -36,18 +38,24 @@ same-length c = search needs
 
 returns : tie.Need-returns
 returns c =
-    let s = c .before .before .before .before .before .before .before .before .before .before .before .args in
-    table-said (s .reading) (s .cells .now) _ _ _ _ _ (ap (λ (x : Text). textAnswer x (s .cells .now)) (sym (c .before .before .before .before .before .before .n .given .1)) ∙ c .before .before .before .before .before .before .before .before .close .ensures .answer (s .cells .now))
-    (c .before .before .table .ensures)
+    let put = c .before .before in
+    let told = put .before .before .before .before in
+    let closed = told .before .before in
+    let s = closed .before .before .before .args in
+    table-said (s .reading) (s .cells .now) _ _ _ _ _ (ap (λ (x : Text). textAnswer x (s .cells .now)) (sym (told .n .given .1)) ∙ closed .close .ensures .answer (s .cells .now))
+    (put .table .ensures)
 
 same-length-2 : tie.Need-same-length-2
 same-length-2 c = search needs
 
 returns-2 : tie.Need-returns-2
 returns-2 c =
-    let s = c .before .before .before .before .before .before .before .before .before .before .args in
-    refusal-said (s .reading) (s .cells .now) _ _ _ _ (ap (λ (x : Text). textAnswer x (s .cells .now)) (sym (c .before .before .before .before .before .k .given .1)) ∙ c .before .before .before .before .before .before .before .close .ensures .answer (s .cells .now))
-    (c .before .before .refusal .ensures)
+    let put = c .before .before in
+    let told = put .before .before .before in
+    let closed = told .before .before in
+    let s = closed .before .before .before .args in
+    refusal-said (s .reading) (s .cells .now) _ _ _ _ (ap (λ (x : Text). textAnswer x (s .cells .now)) (sym (told .k .given .1)) ∙ closed .close .ensures .answer (s .cells .now))
+    (put .refusal .ensures)
 
 pub reply-spec : {M : Type 1} → statement M
 reply-spec =

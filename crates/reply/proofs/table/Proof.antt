@@ -26,8 +26,10 @@ slice-aggregate-list-2 c = search needs
 
 list-requires : tie.Need-list-requires
 list-requires c κs =
-    let s = c .before .before .before .before .before .before .before .before .before .before .before .before .before in
-    printable (s .args .n) (s .args .cells .now) _ _ _ _ refl refl _ _ (subst (Plans (s .args .n) (s .args .cells .now) _ _ _ _) (c .before .before .before .before .rows .given .1) (c .before .before .before .before .before .before .before .before .plan .ensures)) _ (s .pre)
+    let told = c .before .before .before .before in
+    let planned = told .before .before .before .before in
+    let s = planned .before .before .before .before .before in
+    printable (s .args .n) (s .args .cells .now) _ _ _ _ refl refl _ _ (subst (Plans (s .args .n) (s .args .cells .now) _ _ _ _) (told .rows .given .1) (planned .plan .ensures)) _ (s .pre)
 
 enum-known-k : tie.Need-enum-known-k
 enum-known-k c = search needs
@@ -40,18 +42,22 @@ same-length c = search needs
 
 returns : tie.Need-returns
 returns c =
-    let s = c .before .before .before .before .before .before .before .before .before .before .before .before .before .before .before .before in
-    list-printed (s .args .n) (s .args .cells .now) _ _ _ _ refl refl _ _ (subst (Plans (s .args .n) (s .args .cells .now) _ _ _ _) (c .before .before .before .before .before .before .before .rows .given .1) (c .before .before .before .before .before .before .before .before .before .before .before .plan .ensures))
-    _ _ _ (c .before .before .list .ensures)
+    let put = c .before .before in
+    let told = put .before .before .before .before .before in
+    let planned = told .before .before .before .before in
+    let s = planned .before .before .before .before .before .args in
+    list-printed (s .n) (s .cells .now) _ _ _ _ refl refl _ _ (subst (Plans (s .n) (s .cells .now) _ _ _ _) (told .rows .given .1) (planned .plan .ensures)) _ _ _ (put .list .ensures)
 
 same-length-2 : tie.Need-same-length-2
 same-length-2 c = search needs
 
 returns-2 : tie.Need-returns-2
 returns-2 c =
-    let s = c .before .before .before .before .before .before .before .before .before .before .before .before .before .before in
-    refusal-printed (s .args .n) (s .args .cells .now) _ _ _ _ refl refl _ (subst (Plans (s .args .n) (s .args .cells .now) _ _ _ _) (c .before .before .before .before .before .k .given .1) (c .before .before .before .before .before .before .before .before .before .plan .ensures))
-    _ _ _ (c .before .before .refusal .ensures)
+    let put = c .before .before in
+    let told = put .before .before .before in
+    let planned = told .before .before .before .before in
+    let s = planned .before .before .before .before .before .args in
+    refusal-printed (s .n) (s .cells .now) _ _ _ _ refl refl _ (subst (Plans (s .n) (s .cells .now) _ _ _ _) (told .k .given .1) (planned .plan .ensures)) _ _ _ (put .refusal .ensures)
 
 pub table-spec : {M : Type 1} → statement M
 table-spec =

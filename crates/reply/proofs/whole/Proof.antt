@@ -21,7 +21,9 @@ same-length c = search needs
 
 returns : tie.Need-returns
 returns c =
-    input-said (c .before .before .before .before .before .before .before .before .before .before .args .input .now) _ _ _ _ _ (c .before .before .before .before .before .before .feed .ensures .state) (c .before .before .reply .ensures)
+    let read = c .before .before .before .before .before .before in
+    let s = read .before .before .before .before in
+    input-said (s .args .input .now) _ _ _ _ _ (read .feed .ensures .state) (c .before .before .reply .ensures)
 
 pub whole-spec : {M : Type 1} → statement M
 whole-spec = tie.close (tie.spec slice-aggregate-feed feed-requires slice-aggregate-reply reply-requires same-length returns)

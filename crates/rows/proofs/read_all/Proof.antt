@@ -1,9 +1,11 @@
 -- `rows::read_all` meets its contract: after each turn the state is the one behind the pieces so far. Assumes nothing.
 use borrow.Author.Needs.{needs}
 use mathlib.Core.Path.{_≡_, refl, sym, _∙_}
+use Prim.Native.Nat.{_<_}
 use native.Mathlib.Omega.{arith}
 use lib.ListN.{length}
-use Rattle.rows.specs.Steps.{ReadAll}
+use Rattle.rows.specs.Steps.{reached, ReadAll}
+use Rattle.rows.specs.declared.Turn.{Turn}
 use Rattle.rows.proofs.Answers.{moved-bits}
 use Rattle.rows.proofs.Pieces.{read-none, read-wrong, read-more}
 use Rattle.rows.proofs.read_all.Statement.{statement}
@@ -27,13 +29,23 @@ slice-aggregate-read c = c .before .before .loop .inv .2
 read-requires : tie.Need-read-requires Inv-loop μ-loop
 read-requires c κs = search needs
 
+-- ---- a piece was read
+
+module _ (c : tie.After-read Inv-loop μ-loop) where
+  abbrev entry : tie.At-loop Inv-loop μ-loop
+  entry = c .before .before .before
+
+  piece-long : 65536 ≡ length (c .read .last .1 .0)
+  piece-long = entry .loop .inv .2 ∙ sym (c .read .kept .1 .0)
+
 slice-aggregate-take-turn : tie.Need-slice-aggregate-take-turn Inv-loop μ-loop
-slice-aggregate-take-turn c = c .before .before .before .before .before .before .loop .inv .2 ∙ sym (c .before .before .before .read .kept .1 .0)
+slice-aggregate-take-turn c = piece-long (c .before .before .before)
 
 take-turn-requires : tie.Need-take-turn-requires Inv-loop μ-loop
 take-turn-requires c κs =
-    let read = c .before .before .before .read in
-    (c .before .before .before .before .before .before .loop .inv .1 .room, moved-bits (length (c .before .before .before .before .before .before .loop .piece)) (length (read .last .1 .0)) (read .result) (record { sfits = read .ok }) (sym (read .kept .1 .0)) (read .ensures))
+    let past = c .before .before .before in
+    let read = past .read in
+    (entry past .loop .inv .1 .room, moved-bits _ _ (read .result) (record { sfits = read .ok }) (sym (read .kept .1 .0)) (read .ensures))
 
 enum-known-next : tie.Need-enum-known-next Inv-loop μ-loop
 enum-known-next c = search needs
@@ -41,20 +53,37 @@ enum-known-next c = search needs
 enum-known-last : tie.Need-enum-known-last Inv-loop μ-loop
 enum-known-last c = search needs
 
+-- ---- and taken
+
+module _ (c : tie.After-take-turn Inv-loop μ-loop) where
+  abbrev past-read : tie.After-read Inv-loop μ-loop
+  past-read = c .before .before .before .before
+
+  cells-long : length (c .take-turn .last .1 .0) ≡ length (entry past-read .before .before .before .args .cells .now)
+  cells-long = c .take-turn .kept .1 .0 ∙ entry past-read .loop .inv .0
+
+  read-on : (t : Turn) → c .take-turn .result ≡ t → ReadAll (reached t) (c .take-turn .last .1 .0)
+  read-on t e = read-more _ _ _ _ _ t _ e (c .take-turn .ensures) (entry past-read .loop .inv .1)
+
+  a-turn-left : 0 < entry past-read .loop .turns
+  a-turn-left = past-read .before .before .loop-test .taken
+
 same-length : tie.Need-same-length Inv-loop μ-loop
-same-length c = c .before .before .before .before .before .take-turn .kept .1 .0 ∙ c .before .before .before .before .before .before .before .before .before .before .before .before .loop .inv .0
+same-length c = cells-long (c .before .before .before .before .before)
 
 returns : tie.Need-returns Inv-loop μ-loop
-returns c = read-more _ _ _ _ _ _ _ (c .before .last .given .1) (c .before .before .before .before .before .take-turn .ensures) (c .before .before .before .before .before .before .before .before .before .before .before .before .loop .inv .1)
+returns c = read-on (c .before .before .before .before .before) _ (c .before .last .given .1)
 
 sub-turns : tie.Need-sub-turns Inv-loop μ-loop
-sub-turns c = omega (arith, c .before .before .before .before .before .before .before .before .before .before .before .loop-test .taken)
+sub-turns c = omega (arith, a-turn-left (c .before .before .before .before .before))
 
 loop-less : tie.Need-loop-less Inv-loop μ-loop
-loop-less c = omega (arith, c .before .before .before .before .before .before .before .before .before .before .before .loop-test .taken)
+loop-less c = omega (arith, a-turn-left (c .before .before .before .before .before))
 
 loop-again : tie.Need-loop-again Inv-loop μ-loop
-loop-again c = (c .before .before .before .before .before .take-turn .kept .1 .0 ∙ c .before .before .before .before .before .before .before .before .before .before .before .before .loop .inv .0, read-more _ _ _ _ _ _ _ (c .before .next .given .1) (c .before .before .before .before .before .take-turn .ensures) (c .before .before .before .before .before .before .before .before .before .before .before .before .loop .inv .1), c .before .before .before .before .before .before .before .before .before .before .before .before .loop .inv .2 ∙ sym (c .before .before .before .before .before .before .before .before .before .read .kept .1 .0))
+loop-again c =
+    let taken = c .before .before .before .before .before in
+    (cells-long taken, read-on taken _ (c .before .next .given .1), piece-long (past-read taken))
 
 same-length-2 : tie.Need-same-length-2 Inv-loop μ-loop
 same-length-2 c = c .before .loop .inv .0

@@ -35,10 +35,13 @@ same-length c = search needs
 
 returns-3 : tie.Need-returns-3
 returns-3 c =
-    let b = c .before .before .before .before .before .before .before .before .before .before in
+    let counted = c .before .before .before .before .before in
+    let not-ended = counted .before in
+    let not-failed = not-ended .before in
+    let b = not-failed .before .before .before in
     let s = stateOf (b .args .reading) (b .args .cells .now) in
-    let e = bits-came s (b .args .piece .now) (b .args .got) (b .fits .got) (c .before .before .before .before .before .before .before .if1 .left) (c .before .before .before .before .before .before .if2 .left) (b .pre .1) in
-    let fed-all = ap (λ (n : ℕ). fed s (take n (b .args .piece .now))) (c .before .before .before .before .before .count .ensures .1) in
+    let e = bits-came s (b .args .piece .now) (b .args .got) (b .fits .got) (not-failed .if1 .left) (not-ended .if2 .left) (b .pre .1) in
+    let fed-all = ap (λ (n : ℕ). fed s (take n (b .args .piece .now))) (counted .count .ensures .1) in
     record { state = c .before .before .feed .ensures .state ∙ fed-all ∙ e .0; last = e .1; room = c .before .before .feed .ensures .room }
 
 pub take-turn-spec : {M : Type 1} → statement M

@@ -80,19 +80,20 @@ module _ (t : ℕ) where
 
   last-requires : lts.Need-digit-requires-2 (claims t) (at t) reads.Post
   last-requires c κs =
-      let s = c .before .before .before .before .before .before .before in
-      let high = c .before .before .before .decimal in
-      (omega arith, last-room (s .args .x) (s .args .at) (s .args .out .now) (s .pre .1) (c .before .before .before .before .before .if1 .left) _ _ (high .ensures))
+      let high = c .before .before .before in
+      let large = high .before .before in
+      let s = large .before .before in
+      (omega arith, last-room (s .args .x) (s .args .at) (s .args .out .now) (s .pre .1) (large .if1 .left) _ _ (high .decimal .ensures))
 
   same-length-2 : lts.Need-same-length-2 (claims t) (at t) reads.Post
   same-length-2 c = c .before .before .digit2 .kept .1 .0 ∙ c .before .before .before .before .before .before .decimal .kept .1 .0
 
   returns-2 : lts.Need-returns-2 (claims t) (at t) reads.Post
   returns-2 c =
-      let s = c .before .before .before .before .before .before .before .before .before .before in
-      let large = c .before .before .before .before .before .before .before .before .if1 .left in
-      let high = c .before .before .before .before .before .before .decimal in
-      high-puts (s .args .x) (s .args .at) (s .args .out .now) (s .pre .1) large _ _ (high .ensures) _ _ (c .before .before .digit2 .ensures)
+      let high = c .before .before .before .before .before .before in
+      let large = high .before .before in
+      let s = large .before .before in
+      high-puts (s .args .x) (s .args .at) (s .args .out .now) (s .pre .1) (large .if1 .left) _ _ (high .decimal .ensures) _ _ (c .before .before .digit2 .ensures)
 
 pub +decimal-spec : {M : Type 1} → statement M
 +decimal-spec =

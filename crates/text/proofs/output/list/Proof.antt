@@ -38,16 +38,18 @@ rows-requires c κs = search needs
 
 totals-requires : tie.Need-totals-requires
 totals-requires c κs =
-    let s = c .before .before .before .before .before .before .before .before in
-    room-second {xs = given s} (totalsLine (s .args .count) (s .args .bits)) (c .before .before .before .rows .ensures) (from-front s)
+    let put = c .before .before .before in
+    let s = put .before .before .before .before .before in
+    room-second {xs = given s} (totalsLine (s .args .count) (s .args .bits)) (put .rows .ensures) (from-front s)
 
 same-length : tie.Need-same-length
 same-length c = search needs
 
 returns : tie.Need-returns
 returns c =
-    let s = c .before .before .before .before .before .before .before .before .before .before .before in
-    puts-front (room s) (puts-append {xs = given s} (c .before .before .before .before .before .before .rows .ensures) (c .before .before .totals .ensures))
+    let put = c .before .before .before .before .before .before in
+    let s = put .before .before .before .before .before in
+    puts-front (room s) (puts-append {xs = given s} (put .rows .ensures) (c .before .before .totals .ensures))
 
 pub list-spec : {M : Type 1} → statement M
 list-spec = tie.close (tie.spec rows-requires totals-requires same-length returns)

@@ -11,8 +11,9 @@ word-requires c κs = let s = c .before .before .before in room-first (s .args .
 
 decimal-requires : tie.Need-decimal-requires
 decimal-requires c κs =
-    let s = c .before .before .before .before .before .before .before in
-    room-second (inDecimal (s .args .x)) (c .before .before .before .word .ensures) (s .pre)
+    let put = c .before .before .before in
+    let s = put .before .before .before .before in
+    room-second (inDecimal (s .args .x)) (put .word .ensures) (s .pre)
 
 same-length : tie.Need-same-length
 same-length c = search needs

@@ -26,15 +26,17 @@ number-requires c κs =
     room-first (bytes "refused " ++ inDecimal (s .args .k)) (lineFeed ∷ []) (s .args .out .now) 0 (from-front s)
 
 line-feed-requires : tie.Need-line-feed-requires
-line-feed-requires c κs = room-last lineFeed (c .before .before .before .number .ensures) (from-front (c .before .before .before .before .before .before .before))
+line-feed-requires c κs =
+    let put = c .before .before .before in
+    room-last lineFeed (put .number .ensures) (from-front (put .before .before .before .before))
 
 same-length : tie.Need-same-length
 same-length c = search needs
 
 returns : tie.Need-returns
 returns c =
-    let s = c .before .before .before .before .before .before .before .before .before .before in
-    puts-front (room s) (puts-append (c .before .before .before .before .before .before .number .ensures) (c .before .before .line-feed .ensures))
+    let put = c .before .before .before .before .before .before in
+    puts-front (room (put .before .before .before .before)) (puts-append (put .number .ensures) (c .before .before .line-feed .ensures))
 
 pub refusal-spec : {M : Type 1} → statement M
 refusal-spec = tie.close (tie.spec slice-aggregate-number number-requires line-feed-requires same-length returns)

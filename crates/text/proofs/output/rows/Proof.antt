@@ -58,10 +58,11 @@ shared-slice-read-row-2 c = omega arith
 
 row-requires : tie.Need-row-requires Inv-loop μ-loop
 row-requires c κs =
-    let s = c .before .before .before .before .before .before .before .before in
-    let i = c .before .before .before .before .loop .inv in
-    let place = few (s .args .n) (s .args .values .now) (s .args .cares .now) (s .args .out .now) (c .before .before .before .before .loop .i) _ _ (i .2) (i .0 .width) in
-    (i .0 .width, omega (arith, place (omega arith) (omega arith), puts-long (i .2)))
+    let turn = c .before .before .before .before in
+    let s = turn .before .before .before .before in
+    let known = turn .loop .inv in
+    let place = few (s .args .n) (s .args .values .now) (s .args .cares .now) (s .args .out .now) (turn .loop .i) _ _ (known .2) (known .0 .width) in
+    (known .0 .width, omega (arith, place (omega arith) (omega arith), puts-long (known .2)))
 
 add-i : tie.Need-add-i Inv-loop μ-loop
 add-i c = omega arith
@@ -71,10 +72,12 @@ loop-less c = omega arith
 
 loop-again : tie.Need-loop-again Inv-loop μ-loop
 loop-again c =
-    let s = c .before .before .before .before .before .before .before .before .before .before .before in
-    let i = c .before .before .before .before .before .before .before .loop .inv in
-    let next = one (s .args .n) (s .args .values .now) (s .args .cares .now) (s .args .out .now) (c .before .before .before .before .before .before .before .loop .i) (c .before .before .before .before .before .before .before .loop .out) (c .before .before .before .before .before .before .before .loop .place) (i .2) in
-    (i .0, omega arith, next (omega arith) (omega arith) _ _ (c .before .before .row .ensures))
+    let put = c .before .before in
+    let turn = put .before .before .before .before .before in
+    let s = turn .before .before .before .before in
+    let known = turn .loop .inv in
+    let next = one (s .args .n) (s .args .values .now) (s .args .cares .now) (s .args .out .now) (turn .loop .i) _ _ (known .2) in
+    (known .0, omega arith, next (omega arith) (omega arith) _ _ (put .row .ensures))
 
 same-length : tie.Need-same-length Inv-loop μ-loop
 same-length c = puts-long (c .before .loop .inv .2)

@@ -30,25 +30,26 @@ slice-aggregate-number-2 c = search needs
 
 number-requires-2 : tie.Need-number-requires-2
 number-requires-2 c κs =
-    let s = c .before .before .before .before .before .before .before .before in
+    let put = c .before .before .before .before in
+    let s = put .before .before .before .before in
     let both : List ℕ = first (s .args .rows) ++ second (s .args .bits) in
-    room-second (second (s .args .bits)) (c .before .before .before .before .number .ensures)
+    room-second (second (s .args .bits)) (put .number .ensures)
     (room-first both (lineFeed ∷ []) (s .args .out .now) (s .args .at) (s .pre))
 
 line-feed-requires : tie.Need-line-feed-requires
 line-feed-requires c κs =
-    let rows = c .before .before .before .before .before .before .before .before .number in
-    let bits = c .before .before .before .number2 in
-    room-last lineFeed (puts-append (rows .ensures) (bits .ensures)) (c .before .before .before .before .before .before .before .before .before .before .before .before .pre)
+    let bits = c .before .before .before in
+    let rows = bits .before .before .before .before .before in
+    room-last lineFeed (puts-append (rows .number .ensures) (bits .number2 .ensures)) (rows .before .before .before .before .pre)
 
 same-length : tie.Need-same-length
 same-length c = search needs
 
 returns : tie.Need-returns
 returns c =
-    let rows = c .before .before .before .before .before .before .before .before .before .before .before .number in
-    let bits = c .before .before .before .before .before .before .number2 in
-    puts-append (puts-append (rows .ensures) (bits .ensures)) (c .before .before .line-feed .ensures)
+    let bits = c .before .before .before .before .before .before in
+    let rows = bits .before .before .before .before .before in
+    puts-append (puts-append (rows .number .ensures) (bits .number2 .ensures)) (c .before .before .line-feed .ensures)
 
 pub totals-spec : {M : Type 1} → statement M
 totals-spec =
