@@ -5,7 +5,7 @@ use mathlib.Core.List.{List, [], _∷_}
 use Prim.Native.Nat.{ℕ, zero, suc, _^_, _<_, _≤_}
 use native.Mathlib.Omega.{arith}
 use lib.IntN.{ℤ}
-use lib.ListN.{length}
+use lib.ListN.{length, length-map}
 use Rattle.cube.specs.Words.{rowsOf, codesOf, primesOf, essentialsOf}
 use Rattle.cube.specs.Calls.{short, when, listConditions, countAnswer, Listed}
 use Rattle.cube.specs.declared.Counted.{Counted}
@@ -15,6 +15,7 @@ use Rattle.cube.proofs.Codes.{codes-length}
 use Rattle.cube.proofs.Lists.{rows-length}
 use Rattle.cells.specs.Cells.{cellsRefuses}
 use Rattle.primes.specs.Primes.{primesRefuses}
+use Rattle.chart.specs.Rows.{chartOf}
 use Rattle.listfile.specs.Write.{fileOf, fileLength, writeRefuses}
 use Rattle.listfile.proofs.Theorems.{file-length}
 use Rattle.installer.specs.Numbers.{countNumber, readCount, ListedForC}
@@ -32,6 +33,9 @@ module _ (n : ℕ) (t : List ℕ) (places : ℕ) (e : primesRefuses n t places �
 
   pub few-primes : length (primesOf n t) < 2 ^ 31
   few-primes = few-cubes (length (primesOf n t)) (primes-most n t)
+
+  pub few-chart : length (chartOf n t) < 2 ^ 31
+  few-chart = few-cubes (length (chartOf n t)) (rw length-map (primes-most n t))
 
   pub few-essentials : length (essentialsOf n t) < 2 ^ 31
   few-essentials = few-cubes (length (essentialsOf n t)) (essentials-most n t)

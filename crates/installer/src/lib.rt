@@ -1,8 +1,9 @@
-// The calls for the installer, which is in C: numbers and lent memory go in, one number comes out. `include/rows.h` declares
+// Every call for the installer, which is in C: numbers and lent memory go in, one number comes out. `include/rows.h` declares
 // the functions, and `rt staticlib installer` makes the library.
 //
 //     rows_plan(2, table, 4, values, 4, cares, 4)      // for the table 0 1 1 1: 20002, two rows with two tested bits
 //     rows_primes(2, table, 4, cubes, 9)               // for the same table: 2, and the first places hold 5 (12) and 7 (21)
+use chart::ChartRow;
 use checking::Checked;
 use cube::Counted;
 use plan::Planned;
@@ -13,6 +14,7 @@ ghost use Rattle.cube.specs.Words.{codesOf, primesOf, essentialsOf};
 ghost use Rattle.cube.specs.Calls.{countAnswer};
 ghost use Rattle.cells.specs.Cells.{cellsRefuses};
 ghost use Rattle.primes.specs.Primes.{primesRefuses};
+ghost use Rattle.chart.specs.Rows.{chartOf};
 ghost use Rattle.plan.specs.Plan.{planAnswer};
 ghost use Rattle.checking.specs.Check.{checkAnswer, checkOf};
 ghost use Rattle.listfile.specs.Write.{fileOf, writeRefuses};
@@ -90,6 +92,15 @@ pub extern "C" fn rows_primes(n: usize, table: &[u8], cubes: &mut [u16]) -> i32
         (now (cubes .entry)) (now (cubes .exit)) r ⌝ }
 {
     count_number(primes::primes(n, table, cubes))
+}
+
+// Chart for C: how many chart rows there are, which stand in the first of the lent rows, or minus the number of the refusal.
+#[no_mangle]
+pub extern "C" fn rows_chart(n: usize, table: &[u8], rows: &mut [ChartRow]) -> i32
+    ensures { λ r. ⌜ ListedForC (primesRefuses n (now (table .entry)) (length (now (rows .entry)))) (chartOf n (now (table .entry)))
+        (now (rows .entry)) (now (rows .exit)) r ⌝ }
+{
+    count_number(chart::chart(n, table, rows))
 }
 
 // Essentials for C: how many essential primes there are, which stand in the first places, or minus the number of the refusal.
