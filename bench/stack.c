@@ -44,6 +44,7 @@ static void *plan_all(void *unused) {
 
 static void *all_others(void *unused) {
     static uint16_t cubes[MOST_CUBES];
+    static struct rows_chart_row rows[MOST_CUBES];
     static uint8_t codes[MOST_CELLS], file[2 + 2 * MOST_ROWS];
     memset(values, 0, sizeof values);
     memset(cares, 0, sizeof cares);
@@ -51,6 +52,7 @@ static void *all_others(void *unused) {
         accept(rows_spell(width, 0, values, cares));
         accept(rows_cells(width, 0, codes, MOST_CELLS));
         accept(rows_primes(width, table, cells, cubes, MOST_CUBES));
+        accept(rows_chart(width, table, cells, rows, MOST_CUBES));
         accept(rows_essentials(width, table, cells, cubes, MOST_CUBES));
         accept(rows_check(width, table, cells, values, MOST_ROWS, cares, MOST_ROWS));
         accept(rows_write(width, values, MOST_ROWS, cares, MOST_ROWS, file, sizeof file));

@@ -79,6 +79,23 @@ int32_t rows_cells(size_t n, size_t cube, uint8_t *codes, size_t codes_len);
  */
 int32_t rows_primes(size_t n, const uint8_t *table, size_t table_len, uint16_t *cubes, size_t cubes_len);
 
+/* A row of the chart: the cube number of a prime, the wanted codes that it matches, and how many bits it
+ * tests. Bit c of word stands for code c; it is 0 where c is free or barred.
+ */
+struct rows_chart_row {
+    uint16_t cube;
+    uint64_t word;
+    uint8_t literals;
+};
+
+/* The chart of the table, a row for each prime, ascending by cube number, into the first places of rows.
+ *
+ * Answers how many there are.
+ * Refuses 1, 2, 3, then 4 when rows_len is below 3^n, even if there are fewer primes.
+ */
+int32_t rows_chart(size_t n, const uint8_t *table, size_t table_len, struct rows_chart_row *rows,
+                   size_t rows_len);
+
 /* The cube numbers of the essential primes of the table, ascending, into the first places of cubes.
  *
  * Answers how many there are.

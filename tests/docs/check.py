@@ -1,9 +1,9 @@
 #!/usr/bin/env python3
-"""Holds the documents to the sources: what docs/PROMISES.md names is there, it names every must-fail edit, and README.md lists the believed pages with all
-that they cite and counts their lines rightly.
+"""Holds the documents to the sources: what docs/PROMISES.md names is there, it names every must-fail edit, README.md lists the believed pages with all that
+they cite, and their lines are counted rightly.
 
     python3 check.py             prints each name that is not there, and at the end 'N passed, M failed'
-    python3 check.py --pages     the believed pages that README.md lists, each with its number of lines, and their sum
+    python3 check.py --pages     the believed pages that README.md lists, each with its number of lines, as docs/TRUST.md has them
 
 In docs/PROMISES.md a line 'says it' or 'theorem' names definitions, each with its crate and file, as in `badWidth` (cube `Calls`); 'promised by' and
 'where' name functions, as in `plan::plan`; 'guarded by' and 'shut out by' name must-fail edits and theorems, `Refuted.NAME`; 'run by' names tests.
@@ -126,8 +126,8 @@ def lines(page):
 def main(words):
     if words == ["--pages"]:
         for page in pages():
-            print("%5d %s" % (lines(page), page.relative_to(TOP)))
-        print("%5d" % sum(map(lines, pages())))
+            print("| `%s` | %d |" % (page.relative_to(TOP), lines(page)))
+        print("| all | %d |" % sum(map(lines, pages())))
         return 0
     check_promises()
     promises = (TOP / "docs" / "PROMISES.md").read_text()
@@ -137,9 +137,14 @@ def main(words):
         expect("%s, a page to believe" % page.relative_to(TOP), page.is_file())
         for other in cited(page):
             expect("%s among the pages to believe, as %s cites it" % (other.relative_to(TOP), page.relative_to(TOP)), other in pages())
-    said = re.search(r"([\d,]+) lines\s+with their comments", (TOP / "README.md").read_text())
     total = sum(map(lines, filter(pathlib.Path.is_file, pages())))
-    expect("README.md's number of believed lines, %d" % total, said is not None and int(said.group(1).replace(",", "")) == total)
+    for document in "README.md", "docs/TRUST.md":
+        said = re.search(r"([\d,]+)\s+lines\s+with\s+their\s+comments", (TOP / document).read_text())
+        expect("the number of believed lines, %d, in %s" % (total, document), said is not None and int(said.group(1).replace(",", "")) == total)
+    counted = re.findall(r"^\| `(crates/\S+)` \| (\d+) \|$", (TOP / "docs" / "TRUST.md").read_text(), re.M)
+    for page in pages():
+        row = (str(page.relative_to(TOP)), str(lines(page)))
+        expect("%s with %s lines in docs/TRUST.md" % row, row in counted)
     print("%d passed, %d failed" % (passed, failed))
     return 1 if failed or not passed else 0
 

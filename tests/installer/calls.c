@@ -114,6 +114,25 @@ int32_t try_primes(size_t n, const uint8_t *table, size_t table_len, size_t cube
 
 int32_t try_essentials(size_t n, const uint8_t *table, size_t table_len, size_t cubes_len) { return try_listing(1, n, table, table_len, cubes_len); }
 
+int32_t try_chart(size_t n, const uint8_t *cells, size_t table_len, size_t rows_len) {
+    struct term primes[MOST_CUBES];
+    uint8_t *table = lend(0, cells, table_len);
+    struct rows_chart_row *rows = lend_random(1, rows_len * sizeof *rows);
+    int k = refuses_table(n, cells, table_len);
+    k = k ? k : rows_len < power(3, n) ? 4 : 0;
+    calling = "rows_chart";
+    int32_t answer = rows_chart(n, table, table_len, rows, rows_len);
+    size_t count = k ? 0 : find_primes(n, cells, primes);
+    int right = kept(0, 0) && kept(1, count * sizeof *rows);
+    for (size_t i = 0; i < count; i++) {
+        right = right && rows[i].cube == primes[i].cube && rows[i].word == primes[i].wanted && rows[i].literals == primes[i].tested;
+    }
+    int32_t want = k ? -k : (int32_t)count;
+    expect(answer == want && right, "rows_chart(%zu, %s, %zu places): %d, expected %d; lent memory is %s", n, text(cells, table_len), rows_len, answer, want,
+           word(right));
+    return answer;
+}
+
 /* Whether a list is formed, right for the table, ascending by cube number, and has so many tested bits. Whether a shorter one exists is compared by
  * tests/minimum. */
 static int planned(size_t n, const uint8_t *table, const uint8_t *values, const uint8_t *cares, size_t rows, unsigned bits) {

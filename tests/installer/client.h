@@ -29,6 +29,7 @@ int kept(size_t which, size_t used);
 int32_t try_spell(size_t n, size_t cube);
 int32_t try_cells(size_t n, size_t cube, size_t codes_len);
 int32_t try_primes(size_t n, const uint8_t *table, size_t table_len, size_t cubes_len);
+int32_t try_chart(size_t n, const uint8_t *table, size_t table_len, size_t rows_len);
 int32_t try_essentials(size_t n, const uint8_t *table, size_t table_len, size_t cubes_len);
 int32_t try_plan(size_t n, const uint8_t *table, size_t table_len, size_t values_len, size_t cares_len);
 int32_t try_check(size_t n, const uint8_t *table, size_t table_len, const uint8_t *values, size_t values_len, const uint8_t *cares, size_t cares_len);
@@ -44,7 +45,7 @@ size_t cubes(size_t n);
 
 #define LENGTH(array) (sizeof(array) / sizeof((array)[0]))
 
-/* What is tried. cubes.c: Spell and Cells. tables.c: Primes, Essentials and Plan. lists.c: Check and Write. edges.c: the sentences of "Codes at the edge"
+/* What is tried. cubes.c: Spell and Cells. tables.c: Primes, Chart, Essentials and Plan. lists.c: Check and Write. edges.c: the sentences of "Codes at the edge"
  * and the cases a to j, by their numbers in document 01, and very long arrays. */
 void every_cube(void);
 void places_for_codes(void);

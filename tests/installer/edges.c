@@ -17,6 +17,7 @@ static void width_refused(size_t n, size_t cells) {
     answers(sentence, try_spell(n, 0), -1);
     answers(sentence, try_cells(n, 0, 300), -1);
     answers(sentence, try_primes(n, wanted, cells, 3000), -1);
+    answers(sentence, try_chart(n, wanted, cells, 800), -1);
     answers(sentence, try_essentials(n, wanted, cells, 3000), -1);
     answers(sentence, try_plan(n, wanted, cells, 300, 300), -1);
     answers(sentence, try_check(n, wanted, cells, rows, 1, rows, 1), -1);
@@ -30,6 +31,7 @@ static void width_accepted(size_t n, size_t codes, size_t cubes) {
     answers(sentence, try_spell(n, cubes - 1), 0);
     answers(sentence, try_cells(n, cubes - 1, codes), (int32_t)codes);
     answers(sentence, try_primes(n, wanted, codes, cubes), 1);
+    answers(sentence, try_chart(n, wanted, codes, cubes), 1);
     answers(sentence, try_essentials(n, wanted, codes, cubes), 1);
     answers(sentence, try_plan(n, wanted, codes, codes, codes), 10000);
     answers(sentence, try_check(n, wanted, codes, rows, 1, rows, 1), 0);
@@ -39,6 +41,7 @@ static void width_accepted(size_t n, size_t codes, size_t cubes) {
 /* A table that every call on a table refuses, or none does, with places enough. */
 static void table(const char *sentence, const uint8_t *cells, size_t len, int32_t primes, int32_t essentials, int32_t plan, int32_t check) {
     answers(sentence, try_primes(6, cells, len, 729), primes);
+    answers(sentence, try_chart(6, cells, len, 729), primes);
     answers(sentence, try_essentials(6, cells, len, 729), essentials);
     answers(sentence, try_plan(6, cells, len, 64, 64), plan);
     answers(sentence, try_check(6, cells, len, rows, 0, rows, 0), check);
@@ -124,6 +127,7 @@ void cases(void) {
             cells[c] = (uint8_t)(e->cells[c] - '0');
         }
         answers(e->name, try_primes(e->n, cells, codes, 81), e->primes);
+        answers(e->name, try_chart(e->n, cells, codes, 81), e->primes);
         answers(e->name, try_essentials(e->n, cells, codes, 81), e->essentials);
         answers(e->name, try_plan(e->n, cells, codes, codes, codes), 10000 * e->rows + e->bits);
     }
@@ -145,7 +149,9 @@ void long_arrays(void) {
     }
     uint8_t *second = large + half, zeros[64] = {0}, file[300], other[64];
     uint16_t cubes[729];
+    struct rows_chart_row chart[729];
     answers("2^32 + 64 cells", rows_primes(6, large, more + 64, cubes, 729), -2);
+    answers("2^32 + 64 cells", rows_chart(6, large, more + 64, chart, 729), -2);
     answers("2^32 + 64 cells", rows_essentials(6, large, more + 64, cubes, 729), -2);
     answers("2^32 + 64 cells", rows_plan(6, large, more + 64, file, 64, other, 64), -2);
     answers("2^32 + 64 cells", rows_check(6, large, more + 64, zeros, 1, rows, 1), -2);

@@ -3,6 +3,7 @@
 /* The calls on one table, with the least memory that will do or a little more. */
 static void try_table(size_t n, const uint8_t *table) {
     try_primes(n, table, codes(n), cubes(n) + random_below(3));
+    try_chart(n, table, codes(n), cubes(n) + random_below(3));
     try_essentials(n, table, codes(n), cubes(n) + random_below(3));
     try_plan(n, table, codes(n), codes(n) + random_below(3), codes(n) + random_below(3));
 }
@@ -40,6 +41,7 @@ void places_for_tables(void) {
         random_table(n, table, 4, 2);
         for (size_t len = 0; len < cubes(n) + 3; len++) {
             try_primes(n, table, codes(n), len);
+            try_chart(n, table, codes(n), len);
             try_essentials(n, table, codes(n), len);
         }
         for (size_t len = 0; len < codes(n) + 3; len++) {
@@ -55,6 +57,7 @@ static void try_places(size_t n, const uint8_t *table, size_t table_len) {
     size_t for_rows[] = {0, 1, codes(n) - 1, codes(n), codes(n) + 1};
     for (size_t i = 0; i < LENGTH(for_cubes); i++) {
         try_primes(n, table, table_len, for_cubes[i]);
+        try_chart(n, table, table_len, for_cubes[i]);
         try_essentials(n, table, table_len, for_cubes[i]);
     }
     for (size_t i = 0; i < LENGTH(for_rows); i++) {
