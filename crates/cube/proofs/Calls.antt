@@ -52,10 +52,14 @@ first-holds b k rest e = ap (λ (x : Bool). cond x k (firstOf rest)) e
 pub first-passes : (b : Bool) (k : ℕ) (rest : List Condition) → b ≡ false → firstOf (when b k ∷ rest) ≡ firstOf rest
 first-passes b k rest e = ap (λ (x : Bool). cond x k (firstOf rest)) e
 
--- where none holds, the first does not, and none of the rest
-none-first : (b : Bool) (k : ℕ) (rest : List Condition) → firstOf (when b (suc k) ∷ rest) ≡ 0 → (b ≡ false) × (firstOf rest ≡ 0)
+-- where none holds, the first does not, and none of the rest, which would be refused with this number
+pub none-first : (b : Bool) (k rest : ℕ) → cond b (suc k) rest ≡ 0 → (b ≡ false) × (rest ≡ 0)
 none-first true k rest e = absurd (omega arith)
 none-first false k rest e = (refl, e)
+
+-- every call refuses a bad width first
+pub width-first : (n rest : ℕ) → cond (badWidth n) 1 rest ≡ 0 → n ≤ widest
+width-first n rest e = width-to n (none-first (badWidth n) 0 rest e .0)
 
 -- every condition has a number
 abbrev pub numbered : List Condition → Bool
@@ -82,6 +86,13 @@ conditions-pass (x ∷ xs) ys n e =
     go true h rest = absurd (not-e (eqb (x .number) 0) (and-l (not (eqb (x .number) 0)) (numbered xs) n) (eqb-of (x .number) 0 h))
     go false h rest = rest h
 
+pub none-in-front : (xs ys : List Condition) → firstOf (xs ++ ys) ≡ 0 → firstOf xs ≡ 0
+none-in-front xs ys e = go (firstOf xs) refl
+  where
+    go : (k : ℕ) → firstOf xs ≡ k → firstOf xs ≡ 0
+    go zero a = a
+    go (suc k) a = absurd (let z : suc k ≡ 0 = sym (conditions-refuse xs ys k a) ∙ e in omega arith)
+
 -- ---- a table that is not refused
 
 pub record Accepted (n : ℕ) (t : List ℕ) : Type 0 where
@@ -91,8 +102,8 @@ pub record Accepted (n : ℕ) (t : List ℕ) : Type 0 where
 module _ (n : ℕ) (t : List ℕ) where
   pub accepted : firstOf (tableConditions n t) ≡ 0 → Accepted n t
   accepted e =
-      let a = none-first (badWidth n) 0 (when (badLength n t) 2 ∷ when (badCell t) 3 ∷ []) e in
-      let b = none-first (badLength n t) 1 (when (badCell t) 3 ∷ []) (a .1) in
+      let a = none-first (badWidth n) 0 _ e in
+      let b = none-first (badLength n t) 1 _ (a .1) in
       record {
         to = width-to n (a .0);
         cells = eqb-true (length t) (2 ^ n) (not-false (eqb (length t) (2 ^ n)) (b .0));
@@ -122,11 +133,9 @@ module _ (n : ℕ) (t : List ℕ) (b : Bool) where
 
   -- where it is not refused
   pub four-none : then-four ≡ 0 → Accepted n t × (b ≡ false)
-  four-none e = go (firstOf (tableConditions n t)) refl
-    where
-      go : (k : ℕ) → firstOf (tableConditions n t) ≡ k → Accepted n t × (b ≡ false)
-      go zero a = (accepted n t a, none-first b 3 [] (sym (table-passes n t (when b 4 ∷ []) a) ∙ e) .0)
-      go (suc k) a = absurd (let z : suc k ≡ 0 = four-table (suc k) (sym a) (λ x. omega arith) ∙ e in omega arith)
+  four-none e =
+      let table = none-in-front (tableConditions n t) (when b 4 ∷ []) e in
+      (accepted n t table, none-first b 3 0 (sym (table-passes n t (when b 4 ∷ []) table) ∙ e) .0)
 
 -- ---- a list that is not refused
 
@@ -137,8 +146,8 @@ pub record AcceptedList (n : ℕ) (vs ws : List ℕ) : Type 0 where
 pub accepted-list : (n : ℕ) (vs ws : List ℕ) → firstOf (listConditions n vs ws) ≡ 0 → AcceptedList n vs ws
 accepted-list n vs ws e =
     let rs = rowsOf vs ws in
-    let a = none-first (unequalLengths vs ws) 4 (when (tooManyRows (length rs)) 6 ∷ when (badRow n rs) 7 ∷ []) e in
-    let b = none-first (tooManyRows (length rs)) 5 (when (badRow n rs) 7 ∷ []) (a .1) in
+    let a = none-first (unequalLengths vs ws) 4 _ e in
+    let b = none-first (tooManyRows (length rs)) 5 _ (a .1) in
     record {
       equal = eqb-true (length vs) (length ws) (not-false (eqb (length vs) (length ws)) (a .0));
       few = ltb-false mostRows (length rs) (b .0);

@@ -8,11 +8,10 @@ use lib.IntN.{pos}
 use borrow.Author.Tests.{lt-ltb, le-ltb}
 use Rattle.cube.specs.Words.{rowsOf}
 use Rattle.cube.specs.Calls.{Answer, refuses, gives}
-use Rattle.cube.proofs.Calls.{codes-most, answered-gives, answered-refuses}
+use Rattle.cube.proofs.Calls.{width-first, codes-most, answered-gives, answered-refuses}
 use Rattle.checking.specs.Check.{checkRefuses, Verdict, right, missed, stray, verdict, checkOf}
 use Rattle.checking.proofs.Theorems.{check-means}
 use Rattle.installer.specs.Numbers.{checkNumber, readCheck, CheckRead}
-use Rattle.installer.proofs.Widths.{width-of}
 
 module _ (n : ℕ) (t vs ws : List ℕ) where
   not-refused : (v : Verdict) → checkOf n t vs ws ≡ gives v → checkRefuses n t vs ws ≡ 0
@@ -21,7 +20,7 @@ module _ (n : ℕ) (t vs ws : List ℕ) where
   missed-small : (c : ℕ) → checkOf n t vs ws ≡ gives (missed c) → c < 256
   missed-small c e =
       let none = not-refused (missed c) e in
-      omega (arith, check-means n t vs ws none .missed-when c .0 e .code, codes-most n (width-of n _ none))
+      omega (arith, check-means n t vs ws none .missed-when c .0 e .code, codes-most n (width-first n _ none))
 
   pub check-read : CheckRead n t vs ws
   check-read = go (checkOf n t vs ws) refl

@@ -7,10 +7,10 @@ use native.Mathlib.Omega.{arith}
 use lib.IntN.{ℤ}
 use lib.ListN.{length, length-map}
 use Rattle.cube.specs.Words.{rowsOf, codesOf, primesOf, essentialsOf}
-use Rattle.cube.specs.Calls.{short, when, listConditions, countAnswer, Listed}
+use Rattle.cube.specs.Calls.{badWidth, short, when, listConditions, countAnswer, Listed}
 use Rattle.cube.specs.declared.Counted.{Counted}
 use Rattle.cube.specs.declared.Counted.the-variants.{Count, Refused}
-use Rattle.cube.proofs.Calls.{codes-most, cubes-most, primes-most, essentials-most, accepted-list, answered-gives, answered-refuses}
+use Rattle.cube.proofs.Calls.{none-first, width-first, none-in-front, codes-most, cubes-most, primes-most, essentials-most, accepted-list, answered-gives, answered-refuses}
 use Rattle.cube.proofs.Codes.{codes-length}
 use Rattle.cube.proofs.Lists.{rows-length}
 use Rattle.cells.specs.Cells.{cellsRefuses}
@@ -20,16 +20,15 @@ use Rattle.listfile.specs.Write.{fileOf, fileLength, writeRefuses}
 use Rattle.listfile.proofs.Theorems.{file-length}
 use Rattle.installer.specs.Numbers.{countNumber, readCount, ListedForC}
 use Rattle.installer.specs.Steps.{FewCounted}
-use Rattle.installer.proofs.Widths.{width-of, none-behind, none-in-front}
 
 -- ---- what is listed
 
 pub few-codes : (n q places : ℕ) → cellsRefuses n q places ≡ 0 → length (codesOf n q) < 2 ^ 31
-few-codes n q places e = omega (arith, codes-length n q, codes-most n (width-of n _ e))
+few-codes n q places e = omega (arith, codes-length n q, codes-most n (width-first n _ e))
 
 module _ (n : ℕ) (t : List ℕ) (places : ℕ) (e : primesRefuses n t places ≡ 0) where
   few-cubes : (m : ℕ) → m ≤ 3 ^ n → m < 2 ^ 31
-  few-cubes m l = omega (arith, cubes-most n (width-of n _ e))
+  few-cubes m l = omega (arith, cubes-most n (width-first n _ e))
 
   pub few-primes : length (primesOf n t) < 2 ^ 31
   few-primes = few-cubes (length (primesOf n t)) (primes-most n t)
@@ -43,7 +42,7 @@ module _ (n : ℕ) (t : List ℕ) (places : ℕ) (e : primesRefuses n t places �
 pub few-bytes : (n : ℕ) (vs ws : List ℕ) (places : ℕ) → writeRefuses n vs ws places ≡ 0 → length (fileOf n vs ws) < 2 ^ 31
 few-bytes n vs ws places e =
     let past-list = when (short places (fileLength (length (rowsOf vs ws)))) 4 ∷ [] in
-    let list = accepted-list n vs ws (none-in-front (listConditions n vs ws) past-list (none-behind n _ e)) in
+    let list = accepted-list n vs ws (none-in-front (listConditions n vs ws) past-list (none-first (badWidth n) 0 _ e .1)) in
     omega (arith, file-length n vs ws (list .equal), rows-length vs ws (list .equal), list .few)
 
 -- ---- what is answered

@@ -1,6 +1,5 @@
 -- Numbers that C gets as 32 bits, and what is read off them: counts, totals and codes.
 pub mod Signed
-pub mod Widths
 pub mod Counts
 pub mod Totals
 pub mod Codes

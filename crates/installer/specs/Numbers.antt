@@ -7,10 +7,9 @@ use mathlib.Core.List.{List}
 use Prim.Native.Nat.{ℕ, zero, suc, _+_, _*_, _-_, _/_, _%_}
 use lib.Dec.{ltb}
 use lib.IntN.{ℤ, pos, negsuc, negℤ}
-use Rattle.cube.specs.Words.{Row, rowOf}
-use Rattle.cube.specs.Calls.{Answer, refuses, gives, answered, countAnswer, Listed}
+use Rattle.cube.specs.Words.{Row}
+use Rattle.cube.specs.Calls.{Answer, refuses, gives, countAnswer, Listed}
 use Rattle.cube.specs.declared.Counted.{Counted}
-use Rattle.spelling.specs.Spell.{spellRefuses}
 use Rattle.plan.specs.Plan.{Totals, planAnswer, Plans}
 use Rattle.plan.specs.declared.Planned.{Planned}
 use Rattle.checking.specs.Check.{Verdict, right, missed, stray, checkOf}
@@ -28,10 +27,6 @@ countNumber (refuses k) = minus k
 abbrev pub readCount : ℤ → Answer ℕ
 readCount (pos k) = gives k
 readCount (negsuc k) = refuses (suc k)
-
--- what Spell answers: "width and cube number give value and care."
-abbrev pub spellOf : ℕ → ℕ → Answer Row
-spellOf n q = answered (spellRefuses n q) (rowOf n q)
 
 -- 0 for a row, whose value and care stand in the lent bytes
 abbrev pub spellNumber : Answer Row → ℤ

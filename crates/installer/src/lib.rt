@@ -15,10 +15,11 @@ ghost use Rattle.cube.specs.Calls.{countAnswer};
 ghost use Rattle.cells.specs.Cells.{cellsRefuses};
 ghost use Rattle.primes.specs.Primes.{primesRefuses};
 ghost use Rattle.chart.specs.Rows.{chartOf};
+ghost use Rattle.spelling.specs.Spell.{spellOf};
 ghost use Rattle.plan.specs.Plan.{planAnswer};
 ghost use Rattle.checking.specs.Check.{checkAnswer, checkOf};
 ghost use Rattle.listfile.specs.Write.{fileOf, writeRefuses};
-ghost use Rattle.installer.specs.Numbers.{minus, spellOf, countNumber, planNumber, checkNumber, SpellsForC, ListedForC, PlansForC};
+ghost use Rattle.installer.specs.Numbers.{minus, countNumber, planNumber, checkNumber, SpellsForC, ListedForC, PlansForC};
 ghost use Rattle.installer.specs.Steps.{FewCounted, FewTotals};
 
 // Minus the number of a refusal.

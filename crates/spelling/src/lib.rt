@@ -7,9 +7,9 @@ mod values;
 
 ghost use mathlib.Core.Path.{_≡_};
 ghost use Prim.Native.Nat.{_<_, _≤_, _^_};
-ghost use Rattle.cube.specs.Words.{Row, digit as digitAt, valueOf, careOf, rowOf};
-ghost use Rattle.cube.specs.Calls.{widest, badWidth, answered};
-ghost use Rattle.spelling.specs.Spell.{spellRefuses, spellAnswer};
+ghost use Rattle.cube.specs.Words.{digit as digitAt, valueOf, careOf};
+ghost use Rattle.cube.specs.Calls.{widest, badWidth};
+ghost use Rattle.spelling.specs.Spell.{spellOf, spellAnswer};
 
 // The widest mark.
 const WIDEST: usize = 6;
@@ -81,7 +81,7 @@ pub enum Spelled {
 
 // The value and the care that spell a cube, or the number of the refusal.
 pub fn spell(n: usize, q: usize) -> Spelled
-    ensures { λ r. ⌜ spellAnswer r ≡ answered (spellRefuses n q) (rowOf n q) ⌝ }
+    ensures { λ r. ⌜ spellAnswer r ≡ spellOf n q ⌝ }
 {
     if bad_width(n) {
         return Spelled::Refused(1);

@@ -6,8 +6,8 @@ use borrow.Author.Needs.{needs}
 use Rattle.cube.specs.Words.{Row, rowOf}
 use Rattle.cube.specs.Calls.{Answer, refuses, gives}
 use Rattle.cube.proofs.Calls.{answered-refuses}
-use Rattle.spelling.specs.Spell.{spellRefuses, spellAnswer}
-use Rattle.installer.specs.Numbers.{minus, spellOf, readSpell, SpellsForC}
+use Rattle.spelling.specs.Spell.{spellRefuses, spellOf, spellAnswer}
+use Rattle.installer.specs.Numbers.{minus, readSpell, SpellsForC}
 use Rattle.installer.proofs.Signed.{returned}
 use Rattle.installer.proofs.rows_spell.Statement.{statement}
 use Rattle.installer.proofs.rows_spell.Tie as tie
