@@ -27,7 +27,7 @@
  * keeps nothing and allocates nothing, so threads may call at the same time, each with its own arrays.
  *
  * A call needs stack: allow rows_plan 1 MB. The most that was measured, on x86-64, is 287 KB for it,
- * 37 KB for rows_chart and 13 KB for the other calls; no bound is proved.
+ * 39 KB for rows_chart and 13 KB for the other calls; no bound is proved.
  *
  * Answers
  *
