@@ -1,7 +1,7 @@
 /* Compares the lists that rows_plan writes with what programs find that share no code with it and are meant to be obviously right:
  *   - for every table of widths 1, 2 and 3, by trying every set of at most 2^(n-1) cubes;
  *   - for random tables of widths 1 to 6 with at most 16 wanted codes, by the sets of wanted codes;
- *   - for the tables of the files given, whose rows and bits are known, each within so many seconds of the processor's time.
+ *   - for the tables of the files given, whose rows and bits are known, each within the seconds of processor time that are given.
  * Each list is tried on all codes, and checked by rows_check. All this is done with the stack that rows.h asks for, 1 MB, and memory behind it that nobody may
  * touch. Prints each failure, and at the end 'N passed, 0 failed'.
  *
@@ -162,7 +162,7 @@ static int known_table(const char *line) {
     return 1;
 }
 
-/* The tables of a file, of which there must be so many, none slower than this. */
+/* The tables of a file, of which there must be this many, none slower than this. */
 static void known_tables(const char *path, long expected, double most) {
     FILE *f = fopen(path, "r");
     if (f == NULL) {

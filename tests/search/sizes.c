@@ -10,7 +10,7 @@ enum { MOST_ROWS = 768, ROOM = 2000, SIDE = 4 };
 static const uint64_t beside = 0xA5A5A5A5A5A5A5A5u;
 static int passed, failed;
 
-/* So many rows and so many weights must be answered so. Row i has column i % 64 and weighs 1000 + i. */
+/* This many rows and this many weights must be answered like this. Row i has column i % 64 and weighs 1000 + i. */
 static void expect(size_t rows, size_t same, uint64_t want) {
     static uint64_t words[ROOM], effort[SIDE + 2 + SIDE];
     static uint32_t weights[ROOM];
