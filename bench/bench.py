@@ -1,8 +1,8 @@
 #!/usr/bin/env python3
 """Nodes and times of the search, and two other exact solvers on the same covering problems.
 
-    bench/bench.py               the listed tables, and random ones
-    bench/bench.py --quick       the listed tables alone, without the other solvers
+    bench/bench.py               the listed tables, those that were searched for because they are slow, and random ones
+    bench/bench.py --quick       the listed tables and the slow ones, without the other solvers
 
 It builds bench/solve.c over the proved search and bench/stack.c over the calls for C, takes the
 charts from tests/charts.py, compares every optimum with the listed one and with that of glpsol
@@ -149,6 +149,8 @@ def report(name, problems, listed, solvers, lines):
         print("    times as long as one process of ours: %.1f wall, %.1f processor; as a process of ours for each chart: %.1f wall" % (
             total / wall, used / processor, total / alone_wall))
         wrong += differ
+    if "glpsol" not in solvers:
+        return wrong
     took = library(problems)
     print("glpk as a library, in one process: %.1f ms to solve, %.1f times as long as our search" % (took * 1e3, took * 1e6 / sum(a[4] for a in answers)))
     return wrong
@@ -162,6 +164,8 @@ def main(words):
     solvers = [] if quick else list(SOLVERS)
     tables = list(charts.tables(TABLES))
     wrong = report("hard6", [charts.chart(width, cells) for width, cells, _ in tables], [weight for _, _, weight in tables], solvers, True)
+    slow = list(charts.tables(ADVERSARIAL))
+    wrong += report("adversarial6", [charts.chart(width, cells) for width, cells, _ in slow], [weight for _, _, weight in slow], solvers[1:], False)
     if not quick:
         wrong += report("random", charts.random_charts(1956, 500), None, solvers, False)
     stack = run([OUT + "/stack", TABLES, ADVERSARIAL, DENSE]).split()
