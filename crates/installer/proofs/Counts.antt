@@ -7,10 +7,10 @@ use native.Mathlib.Omega.{arith}
 use lib.IntN.{ℤ}
 use lib.ListN.{length, length-map}
 use Rattle.cube.specs.Words.{rowsOf, codesOf, primesOf, essentialsOf}
-use Rattle.cube.specs.Calls.{badWidth, short, when, listConditions, countAnswer, Listed}
+use Rattle.cube.specs.Calls.{badWidth, short, when, listConditions, answered, countAnswer, Listed}
 use Rattle.cube.specs.declared.Counted.{Counted}
 use Rattle.cube.specs.declared.Counted.the-variants.{Count, Refused}
-use Rattle.cube.proofs.Calls.{none-first, width-first, none-in-front, codes-most, cubes-most, primes-most, essentials-most, accepted-list, answered-gives, answered-refuses}
+use Rattle.cube.proofs.Calls.{none-first, width-first, none-in-front, codes-most, cubes-most, primes-most, essentials-most, accepted-list, answered-gives}
 use Rattle.cube.proofs.Codes.{codes-length}
 use Rattle.cube.proofs.Lists.{rows-length}
 use Rattle.cells.specs.Cells.{cellsRefuses}
@@ -47,16 +47,18 @@ few-bytes n vs ws places e =
 
 -- ---- what is answered
 
+-- the answer by the refusal's number is read back
+read-back : (k m : ℕ) → readCount (countNumber (answered k m)) ≡ answered k m
+read-back zero m = refl
+read-back (suc k) m = refl
+
 module _ {A : Type 0} {refusal : ℕ} {list old new : List A} where
   pub few-counted : (a : Counted) → Listed refusal list old new a → (refusal ≡ 0 → length list < 2 ^ 31) → FewCounted a
   few-counted (Refused k) p few = tt
   few-counted (Count k) p few =
       let given = answered-gives refusal k (length list) (p .answer) in subst⁻¹ (λ (i : ℕ). i < 2 ^ 31) (given .1) (few (given .0))
 
-  read-back : (a : Counted) → Listed refusal list old new a → readCount (countNumber (countAnswer a)) ≡ countAnswer a
-  read-back (Count k) p = refl
-  read-back (Refused zero) p = let r = answered-refuses 0 refusal (length list) (p .answer) in absurd (r .1 (r .0))
-  read-back (Refused (suc k)) p = refl
-
   pub listed-for-c : (a : Counted) (r : ℤ) → Listed refusal list old new a → r ≡ countNumber (countAnswer a) → ListedForC refusal list old new r
-  listed-for-c a r p number = record { counted = a; listed = p; number = number; read = ap readCount number ∙ read-back a p }
+  listed-for-c a r p e =
+      let number = e ∙ ap countNumber (p .answer) in
+      record { number = number; places = p .places; read = ap readCount number ∙ read-back refusal (length list) }

@@ -8,8 +8,8 @@ use Prim.Native.Nat.{ℕ, zero, suc, _+_, _*_, _-_, _/_, _%_}
 use lib.Dec.{ltb}
 use lib.IntN.{ℤ, pos, negsuc, negℤ}
 use Rattle.cube.specs.Words.{Row}
-use Rattle.cube.specs.Calls.{Answer, refuses, gives, countAnswer, Listed}
-use Rattle.cube.specs.declared.Counted.{Counted}
+use lib.ListN.{length}
+use Rattle.cube.specs.Calls.{Answer, refuses, gives, answered, written}
 use Rattle.plan.specs.Plan.{Totals, planAnswer, Plans}
 use Rattle.plan.specs.declared.Planned.{Planned}
 use Rattle.checking.specs.Check.{Verdict, right, missed, stray, checkOf}
@@ -18,7 +18,7 @@ use Rattle.checking.specs.Check.{Verdict, right, missed, stray, checkOf}
 abbrev pub minus : ℕ → ℤ
 minus k = negℤ (pos k)
 
--- "the answer is their count": of codes, primes, chart rows, essential primes and bytes alike
+-- "the answer is their count": of codes, primes, chart rows and essential primes; Write's answer is a number of bytes
 abbrev pub countNumber : Answer ℕ → ℤ
 countNumber (gives k) = pos k
 countNumber (refuses k) = minus k
@@ -70,22 +70,21 @@ readCheck (negsuc k) = refuses (suc k)
 abbrev pub CheckRead : ℕ → List ℕ → List ℕ → List ℕ → Type 0
 CheckRead n t vs ws = readCheck (checkNumber (checkOf n t vs ws)) ≡ checkOf n t vs ws
 
--- What rows_spell promises: the number of Spell's answer, the two lent bytes, and that the answer is read off the three.
+-- What rows_spell promises: the number of Spell's answer, the two lent bytes, and that the answer can be read off the three.
 pub record SpellsForC (answer : Answer Row) (value care value′ care′ : ℕ) (r : ℤ) : Type 0 where
   pub number : r ≡ spellNumber answer
   pub value-is : value′ ≡ byteAfter (λ row. row .value) answer value
   pub care-is : care′ ≡ byteAfter (λ row. row .care) answer care
   pub read : readSpell r value′ care′ ≡ answer
 
--- What a call that writes a list promises to C: what it promises in Rattle, of an answer whose number is returned, and which is read off the number
--- again.
+-- What a call that writes a list promises to C, refused input included: the number of its answer, the lent places, and that the answer can be read back from
+-- the number.
 pub record ListedForC {A : Type 0} (refusal : ℕ) (list old new : List A) (r : ℤ) : Type 0 where
-  pub counted : Counted
-  pub listed : Listed refusal list old new counted
-  pub number : r ≡ countNumber (countAnswer counted)
-  pub read : readCount r ≡ countAnswer counted
+  pub number : r ≡ countNumber (answered refusal (length list))
+  pub places : new ≡ written refusal list old
+  pub read : readCount r ≡ answered refusal (length list)
 
--- What rows_plan promises: Plan's promise, of an answer whose number is returned, and which is read off the number again.
+-- What rows_plan promises: Plan's promise, of an answer whose number is returned, and which can be read back from the number.
 pub record PlansForC (n : ℕ) (t values cares values′ cares′ : List ℕ) (r : ℤ) : Type 0 where
   pub planned : Planned
   pub plans : Plans n t values cares values′ cares′ planned

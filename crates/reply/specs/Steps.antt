@@ -1,4 +1,4 @@
--- What the steps to the output promise: what is printed for a table, and for what was read. Nothing that the program promises rests on it alone.
+-- What the steps to the output promise: what is printed for a table, and for what was read. No promise of the program cites it.
 -- Assumes nothing.
 use mathlib.Core.Path.{_≡_}
 use mathlib.Core.List.{List}

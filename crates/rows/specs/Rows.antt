@@ -1,12 +1,12 @@
--- What the program `rows` hands to standard output: the whole output for the whole of what was read. Nothing is known of the bytes that a read
--- delivers, so the promise is of some input; the proof takes for it what the reads put into their buffer, one piece behind another.
+-- What the program `rows` hands to standard output: the whole output for some input. Nothing is known of the bytes that a read delivers, so the promise
+-- cannot say which; the proof takes what the reads put into their buffer, one piece after another. For a given text in memory, `reply::whole` says it.
 -- Assumes nothing.
 use mathlib.Core.List.{List}
 use Prim.Native.Nat.{ℕ}
 use Rattle.reply.specs.Reply.{OutputFor}
 
--- the text is the output for what was read
+-- the text is the whole output for some input
 pub record WholeOutput (text : List ℕ) : Type 0 where
-  -- the bytes that the reads delivered; where a read failed, a text that is not in form
+  -- some input: in the proof the bytes that the reads delivered, or where a read failed a text that is not in form
   pub input : List ℕ
   pub output : OutputFor input text

@@ -1,4 +1,4 @@
--- What the steps of the program promise: one read, all reads, and the output in a buffer. Nothing that the program promises rests on it alone.
+-- What the steps of the program promise: one read, all reads, and the output in a buffer. No promise of the program cites it.
 -- Assumes nothing.
 use mathlib.Core.Path.{_≡_}
 use mathlib.Core.Bool.{Bool, true, false}
@@ -27,7 +27,7 @@ endsInput (pos zero) = true
 endsInput (pos (suc k)) = false
 endsInput (negsuc k) = true
 
--- the state behind it; a text that cannot be read is not in form
+-- the state after it; a text that cannot be read is not in form
 abbrev pub afterRead : State → ℤ → List ℕ → State
 afterRead s (pos k) piece = fed s (take k piece)
 afterRead s (negsuc k) piece = wrong
@@ -38,13 +38,13 @@ pub record Turned (reading : Reading) (old : List ℕ) (got : ℤ) (piece : List
   pub last : isLast t ≡ endsInput got
   pub room : Room (reached t) new
 
--- the state behind the whole input
+-- the state after some input
 pub record ReadAll (r : Reading) (cells : List ℕ) : Type 0 where
   pub input : List ℕ
   pub state : stateOf r cells ≡ fed atStart input
   pub room : Room r cells
 
--- the output for what was read stands at the front of the buffer, and r is its length
+-- the output for some input is at the front of the buffer, and r is its length
 pub record PrintsRead (old new : List ℕ) (r : ℕ) : Type 0 where
   pub input : List ℕ
   pub prints : PrintsInput input old new r
