@@ -9,7 +9,7 @@ use native.Mathlib.Nat.{eq-or-lt-of-le}
 use native.Mathlib.Omega.{arith}
 use lib.Dec.{T, eqb, eqb→eq}
 use lib.ListN.{length}
-use Rattle.numbers.specs.Below.{every, some, those, among, run}
+use Rattle.numbers.specs.Below.{every, some, those, among, tabulate}
 use Rattle.cube.specs.Words.{Row, Cover, rowMatches, formed, ones, eachRow, allFormed, coverMatches, coverLiterals, implements, cubeMatches, cubeLiterals, within, implicant, prime, alone, essential, primesOf, essentialsOf}
 use Rattle.cube.specs.Cases.{Case, tableOf, Holds, AllHold, cases}
 use Rattle.numbers.proofs.Bools.{and-l, and-r}
@@ -101,5 +101,5 @@ certificates =
     ∷ []
 
 pub all-cases : AllHold cases
-unfolding cases certificates row mark certified certifies among tableOf every some those run rowMatches formed ones cubeMatches cubeLiterals within implicant prime alone essential primesOf essentialsOf coverMatches implements coverLiterals eachRow apartFrom independent leastLiterals
+unfolding cases certificates row mark certified certifies among tableOf every some those tabulate rowMatches formed ones cubeMatches cubeLiterals within implicant prime alone essential primesOf essentialsOf coverMatches implements coverLiterals eachRow apartFrom independent leastLiterals
 all-cases = all-hold cases certificates tt

@@ -4,7 +4,7 @@ use Prim.Native.Nat.{ℕ, _^_}
 use mathlib.Core.Bool.{cond}
 use mathlib.Core.List.{List, [], _∷_}
 use lib.ListN.{length}
-use Rattle.numbers.specs.Below.{among, run}
+use Rattle.numbers.specs.Below.{among, tabulate}
 use Rattle.cube.specs.Words.{Cover, coverLiterals, primesOf, essentialsOf}
 use Rattle.cube.specs.Minimum.{Minimum}
 
@@ -20,7 +20,7 @@ pub record Case : Type 0 where
 
 -- one cell per code
 unfoldable pub tableOf : Case → List ℕ
-tableOf k = run (2 ^ k .width) 0 (λ c. cond (among c (k .wanted)) 1 (cond (among c (k .free)) 2 0))
+tableOf k = tabulate (2 ^ k .width) 0 (λ c. cond (among c (k .wanted)) 1 (cond (among c (k .free)) 2 0))
 
 -- the case has this many primes and essentials, and its shortest lists, among all lists, have this many rows and tested bits
 pub record Holds (k : Case) : Type 0 where

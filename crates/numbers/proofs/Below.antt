@@ -10,7 +10,7 @@ use native.Mathlib.Omega.{arith}
 use lib.Dec.{T, eqb, eqb→eq, eqb-refl, lit<}
 use lib.ListN.{length, length-append, getD, List·getD-append}
 use lib.Seq.{getD-append-seam}
-use Rattle.numbers.specs.Below.{flag, every, some, those, count, EachOnce, run}
+use Rattle.numbers.specs.Below.{flag, every, some, those, count, EachOnce, tabulate}
 use Rattle.numbers.proofs.Bools.{and-l, and-r, and-i, or-e, or-l, or-r, or-exchange, not-e, not-i, same, is-true, is-false, holds, lt-or-le}
 
 -- ---- every and some
@@ -320,24 +320,24 @@ module _ (f : ℕ → Bool) where
 
 -- ---- a function's values
 
-run-from : (f : ℕ → ℕ) (m i k : ℕ) → k < m → getD (run m i f) k 0 ≡ f (i + k)
-unfolding run
-run-from f zero i k h = absurd (not-suc-le-zero h)
-run-from f (suc m) i zero h = ap f (sym (add-zero i))
-run-from f (suc m) i (suc k) h = run-from f m (suc i) k (le-of-suc-le-suc h) ∙ ap f (suc-add i k ∙ sym (add-suc i k))
+tabulate-from : (f : ℕ → ℕ) (m i k : ℕ) → k < m → getD (tabulate m i f) k 0 ≡ f (i + k)
+unfolding tabulate
+tabulate-from f zero i k h = absurd (not-suc-le-zero h)
+tabulate-from f (suc m) i zero h = ap f (sym (add-zero i))
+tabulate-from f (suc m) i (suc k) h = tabulate-from f m (suc i) k (le-of-suc-le-suc h) ∙ ap f (suc-add i k ∙ sym (add-suc i k))
 
 -- A constant table that is the run of a definition: the checker computes the run and compares it with the table once, and this is the rule at each entry.
-pub run-at : (f : ℕ → ℕ) (m k : ℕ) → k < m → getD (run m 0 f) k 0 ≡ f k
-run-at f m k h = run-from f m 0 k h ∙ ap f (zero-add k)
+pub tabulate-at : (f : ℕ → ℕ) (m k : ℕ) → k < m → getD (tabulate m 0 f) k 0 ≡ f k
+tabulate-at f m k h = tabulate-from f m 0 k h ∙ ap f (zero-add k)
 
-pub run-length : (f : ℕ → ℕ) (m i : ℕ) → length (run m i f) ≡ m
-unfolding run
-run-length f zero i = refl
-run-length f (suc m) i = ap suc (run-length f m (suc i))
+pub tabulate-length : (f : ℕ → ℕ) (m i : ℕ) → length (tabulate m i f) ≡ m
+unfolding tabulate
+tabulate-length f zero i = refl
+tabulate-length f (suc m) i = ap suc (tabulate-length f m (suc i))
 
 -- one value more
-pub run-more : (f : ℕ → ℕ) (m i : ℕ) → run (suc m) i f ≡ run m i f ++ (f (i + m) ∷ [])
-unfolding run
-run-more f zero i = ap (λ (k : ℕ). f k ∷ []) (sym (add-zero i))
-run-more f (suc m) i =
-    ap (λ (l : List ℕ). f i ∷ l) (run-more f m (suc i) ∙ ap (λ (k : ℕ). run m (suc i) f ++ (f k ∷ [])) (suc-add i m ∙ sym (add-suc i m)))
+pub tabulate-more : (f : ℕ → ℕ) (m i : ℕ) → tabulate (suc m) i f ≡ tabulate m i f ++ (f (i + m) ∷ [])
+unfolding tabulate
+tabulate-more f zero i = ap (λ (k : ℕ). f k ∷ []) (sym (add-zero i))
+tabulate-more f (suc m) i =
+    ap (λ (l : List ℕ). f i ∷ l) (tabulate-more f m (suc i) ∙ ap (λ (k : ℕ). tabulate m (suc i) f ++ (f k ∷ [])) (suc-add i m ∙ sym (add-suc i m)))

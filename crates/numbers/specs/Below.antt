@@ -43,6 +43,6 @@ pub record EachOnce (xs : List ℕ) (P : ℕ → Type 0) : Type 0 where
   pub no-other : (q : ℕ) → (P q → ⊥) → count (eqb q) xs ≡ 0
 
 -- m values of f, from f i on
-unfoldable pub run : ℕ → ℕ → (ℕ → ℕ) → List ℕ
-run zero i f = []
-run (suc m) i f = f i ∷ run m (suc i) f
+unfoldable pub tabulate : ℕ → ℕ → (ℕ → ℕ) → List ℕ
+tabulate zero i f = []
+tabulate (suc m) i f = f i ∷ tabulate m (suc i) f

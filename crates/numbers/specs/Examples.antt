@@ -4,7 +4,7 @@ use mathlib.Core.Bool.{Bool, true, false}
 use mathlib.Core.List.{[], _∷_}
 use Prim.Native.Nat.{ℕ, _*_, _%_}
 use lib.Dec.{eqb}
-use Rattle.numbers.specs.Below.{every, some, those, count, among, run}
+use Rattle.numbers.specs.Below.{every, some, those, count, among, tabulate}
 
 abbrev pub odd : ℕ → Bool
 odd i = eqb (i % 2) 1
@@ -15,4 +15,4 @@ pub record NumberExamples : Type 0 where
   pub some-one : some 5 odd ≡ true
   pub counted : count odd (1 ∷ 2 ∷ 3 ∷ []) ≡ 2
   pub stands : among 3 (1 ∷ 3 ∷ []) ≡ true
-  pub values : run 3 1 (λ i. i * i) ≡ 1 ∷ 4 ∷ 9 ∷ []
+  pub values : tabulate 3 1 (λ i. i * i) ≡ 1 ∷ 4 ∷ 9 ∷ []

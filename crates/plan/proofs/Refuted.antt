@@ -5,7 +5,7 @@ use mathlib.Core.List.{List, [], _∷_}
 use Prim.Native.Nat.{ℕ, zero, suc}
 use native.Mathlib.Omega.{arith}
 use lib.ListN.{length, getD, replicate}
-use Rattle.numbers.specs.Below.{every, some, among, run}
+use Rattle.numbers.specs.Below.{every, some, among, tabulate}
 use Rattle.cube.specs.Words.{rowMatches, coverMatches, rowsOf, implements, cubeOf}
 use Rattle.cube.specs.Calls.{badCell, gives, answered}
 use Rattle.cube.specs.Cases.{Case, tableOf, Holds, case-a, case-b, case-e, case-f, case-g, case-h, case-j, cases}
@@ -102,7 +102,7 @@ four-with-64-places values cares values′ cares′ v w p =
 -- the two rows of h, 10-0 and -00-, in descending order, whatever stands behind them
 pub descending : (values cares values′ cares′ : List ℕ) (r : Planned) → planRefuses 4 (tableOf case-h) (length values) (length cares) ≡ 0
     → Plans 4 (tableOf case-h) values cares (0 ∷ 8 ∷ values′) (6 ∷ 11 ∷ cares′) r → ⊥
-unfolding run among tableOf every rowsOf rowMatches coverMatches implements cubeOf ascendsFrom
+unfolding tabulate among tableOf every rowsOf rowMatches coverMatches implements cubeOf ascendsFrom
 descending values cares values′ cares′ r e p =
     let d = arrays-hold 4 (tableOf case-h) values cares (0 ∷ 8 ∷ values′) (6 ∷ 11 ∷ cares′) .accepted r e p in
     go (d .rows) (d .bits) (d .held)

@@ -3,7 +3,7 @@
 use mathlib.Core.Path.{refl, ap, ap₂, _∙_}
 use Prim.Native.Nat.{ℕ}
 use native.Mathlib.Omega.{arith}
-use Rattle.numbers.specs.Below.{run, some}
+use Rattle.numbers.specs.Below.{tabulate, some}
 use Rattle.cube.specs.Words.{digitOf, coverLiterals, ones}
 use Rattle.cube.specs.Calls.{badCell}
 use Rattle.cube.specs.Theorems.{digitOfVariable}
@@ -19,5 +19,5 @@ shows-digits n q k v =
     ap characterOf (ap₂ digitOf (positions n .value q k v) (positions n .care q k v) ∙ spells-digit (digitOfVariable n k q) (omega arith))
 
 pub examples : Examples
-unfolding read readRun badCell some run listLines coverLiterals ones decimalBy
+unfolding read readRun badCell some tabulate listLines coverLiterals ones decimalBy
 examples = record { list = refl; no-end = λ l. refl; two-ends = λ l. refl; blank = λ l. refl; wide = λ l. refl; cells = λ l. refl }

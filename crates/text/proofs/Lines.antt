@@ -6,10 +6,10 @@ use Prim.Native.Nat.{ℕ, _+_, _*_, _^_, _<_, _≤_}
 use native.Mathlib.Nat.{add-zero}
 use native.Mathlib.Omega.{arith}
 use lib.ListN.{length, length-append, take, set}
-use Rattle.numbers.specs.Below.{run}
+use Rattle.numbers.specs.Below.{tabulate}
 use Rattle.cube.specs.Words.{Row, Cover}
 use Rattle.cube.specs.Calls.{widest}
-use Rattle.numbers.proofs.Below.{run-length}
+use Rattle.numbers.proofs.Below.{tabulate-length}
 use Rattle.numbers.proofs.Fronts.{front-is, front-long}
 use Rattle.numbers.proofs.Lent.{puts-none, puts-append, puts-one, puts-long, front-count, front-places}
 use Rattle.text.specs.Characters.{bytes, lineFeed}
@@ -60,7 +60,7 @@ lines-append n [] r = append-nil (rowLine n r)
 lines-append n (s ∷ rs) r = ap (λ (l : List ℕ). rowLine n s ++ l) (lines-append n rs r) ∙ sym (append-assoc (rowLine n s) (listLines n rs) (rowLine n r))
 
 line-length : (n : ℕ) (r : Row) → length (rowLine n r) ≡ n + 1
-line-length n r = length-append (run n 1 (characterOfVariable n r)) (lineFeed ∷ []) ∙ ap (λ (i : ℕ). i + 1) (run-length (characterOfVariable n r) n 1)
+line-length n r = length-append (tabulate n 1 (characterOfVariable n r)) (lineFeed ∷ []) ∙ ap (λ (i : ℕ). i + 1) (tabulate-length (characterOfVariable n r) n 1)
 
 pub lines-length : (n : ℕ) (rs : Cover) → n ≤ widest → length (listLines n rs) ≤ (widest + 1) * length rs
 unfolding listLines

@@ -6,7 +6,7 @@ use mathlib.Core.Bool.{cond}
 use mathlib.Core.List.{List, [], _∷_, _++_}
 use lib.Dec.{ltb}
 use lib.ListN.{length}
-use Rattle.numbers.specs.Below.{run}
+use Rattle.numbers.specs.Below.{tabulate}
 use Rattle.cube.specs.Words.{Row, Cover, coverLiterals, digitOf}
 use Rattle.cube.specs.Theorems.{bitOfVariable}
 use Rattle.cube.specs.Calls.{firstOf, tableConditions, Answer, refuses, gives, written}
@@ -28,7 +28,7 @@ characterOfVariable n r k = characterOf (digitOf (bitOfVariable n k (r .value)) 
 
 -- "one line per row, x1 first", "Every line printed ends in a line feed."
 abbrev pub rowLine : ℕ → Row → List ℕ
-rowLine n r = run n 1 (characterOfVariable n r) ++ (lineFeed ∷ [])
+rowLine n r = tabulate n 1 (characterOfVariable n r) ++ (lineFeed ∷ [])
 
 -- "A list prints one line per row"
 unfoldable pub listLines : ℕ → Cover → List ℕ

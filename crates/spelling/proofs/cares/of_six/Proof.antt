@@ -1,9 +1,9 @@
 -- `spelling::cares::of_six` meets its contract: the checker computes the base-3 rule at each of the 729 entries, once. Assumes nothing.
 use borrow.Author.Needs.{needs}
-use Rattle.numbers.specs.Below.{run}
+use Rattle.numbers.specs.Below.{tabulate}
 use Rattle.cube.specs.Words.{careOf}
 use Rattle.cube.specs.Calls.{widest}
-use Rattle.numbers.proofs.Below.{run-at}
+use Rattle.numbers.proofs.Below.{tabulate-at}
 use Rattle.spelling.proofs.cares.of_six.Statement.{statement}
 use Rattle.spelling.proofs.cares.of_six.Tie as tie
 
@@ -11,8 +11,8 @@ array-read-result : tie.Need-array-read-result
 array-read-result c = search needs
 
 returns : tie.Need-returns
-unfolding run careOf
-returns c = run-at (careOf widest) 729 (c .args .q) (c .pre)
+unfolding tabulate careOf
+returns c = tabulate-at (careOf widest) 729 (c .args .q) (c .pre)
 
 pub of-six-spec : {M : Type 1} → statement M
 of-six-spec = tie.close (tie.spec array-read-result returns)

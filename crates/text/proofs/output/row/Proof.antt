@@ -6,9 +6,9 @@ use native.Mathlib.Numerals.{add-one}
 use native.Mathlib.Omega.{arith}
 use lib.ListN.{length}
 use borrow.Author.Needs.{needs}
-use Rattle.numbers.specs.Below.{run}
+use Rattle.numbers.specs.Below.{tabulate}
 use Rattle.cube.specs.Calls.{widest}
-use Rattle.numbers.proofs.Below.{run-more}
+use Rattle.numbers.proofs.Below.{tabulate-more}
 use Rattle.text.specs.Output.{characterOfVariable}
 use Rattle.numbers.specs.Lent.{Puts}
 use Rattle.numbers.proofs.Lent.{puts-append, puts-long}
@@ -17,21 +17,21 @@ use Rattle.text.proofs.output.row.Statement.{statement}
 use Rattle.text.proofs.output.row.Tie as tie
 
 module _ (f : ℕ → ℕ) where
-  none : (old : List ℕ) (at : ℕ) → Puts (run 0 1 f) old at old (at + 0)
-  unfolding run
+  none : (old : List ℕ) (at : ℕ) → Puts (tabulate 0 1 f) old at old (at + 0)
+  unfolding tabulate
   none old at = puts-start old at
 
-  one-more : (i x : ℕ) → x ≡ f (i + 1) → run (i + 1) 1 f ≡ run i 1 f ++ (x ∷ [])
+  one-more : (i x : ℕ) → x ≡ f (i + 1) → tabulate (i + 1) 1 f ≡ tabulate i 1 f ++ (x ∷ [])
   one-more i x e =
       let next : 1 + i ≡ i + 1 = omega arith in
-      ap (λ (k : ℕ). run k 1 f) (add-one i) ∙ run-more f i 1 ∙ ap (λ (y : ℕ). run i 1 f ++ (y ∷ [])) (ap f next ∙ sym e)
+      ap (λ (k : ℕ). tabulate k 1 f) (add-one i) ∙ tabulate-more f i 1 ∙ ap (λ (y : ℕ). tabulate i 1 f ++ (y ∷ [])) (ap f next ∙ sym e)
 
-  all : {old new : List ℕ} {at : ℕ} (i n : ℕ) → i ≡ n → Puts (run i 1 f) old at new (at + i) → Puts (run n 1 f) old at new (at + n)
-  all {old} {new} {at} i n e h = subst (λ (k : ℕ). Puts (run k 1 f) old at new (at + k)) e h
+  all : {old new : List ℕ} {at : ℕ} (i n : ℕ) → i ≡ n → Puts (tabulate i 1 f) old at new (at + i) → Puts (tabulate n 1 f) old at new (at + n)
+  all {old} {new} {at} i n e h = subst (λ (k : ℕ). Puts (tabulate k 1 f) old at new (at + k)) e h
 
 abbrev Inv-loop : tie.InvT-loop
 Inv-loop n value care out₀ at i₀ out i =
-    (n ≤ widest) × (at + (n + 1) ≤ length out₀) × (i ≤ n) × Puts (run i 1 (characterOfVariable n (record { value = value; care = care }))) out₀ at out (at + i)
+    (n ≤ widest) × (at + (n + 1) ≤ length out₀) × (i ≤ n) × Puts (tabulate i 1 (characterOfVariable n (record { value = value; care = care }))) out₀ at out (at + i)
 
 abbrev μ-loop : tie.MeasureT-loop
 μ-loop n value care out₀ at i₀ out i = n - i
