@@ -168,8 +168,9 @@ def main(words):
     wrong += report("adversarial6", [charts.chart(width, cells) for width, cells, _ in slow], [weight for _, _, weight in slow], solvers[1:], False)
     if not quick:
         wrong += report("random", charts.random_charts(1956, 500), None, solvers, False)
-    stack = run([OUT + "/stack", TABLES, ADVERSARIAL, DENSE]).split()
-    print("\nstack for the tables of tests/tables: %s bytes in rows_plan, %s in the other calls for C" % tuple(stack))
+    for name, files in ("hard6", [TABLES]), ("all of tests/tables", [TABLES, ADVERSARIAL, DENSE]):
+        stack = run([OUT + "/stack"] + files).split()
+        print("\nstack for %s: %s bytes in rows_plan, %s in rows_chart, %s in the other calls for C" % (name, *stack))
     sys.exit("%d answers are wrong" % wrong if wrong else 0)
 
 

@@ -1,5 +1,5 @@
-/* Runs the calls for C on the tables of the files named, and writes how many bytes of stack rows_plan needed, and how many the others. A table is a line "width
- * cells rows bits", the cells 0 barred, 1 wanted, - free. */
+/* Runs the calls for C on the tables of the files named, and writes how many bytes of stack rows_plan needed, how many rows_chart and how many the others. A
+ * table is a line "width cells rows bits", the cells 0 barred, 1 wanted, - free. */
 #include <stdint.h>
 #include <stdio.h>
 
@@ -42,9 +42,16 @@ static void *plan_all(void *unused) {
     return unused;
 }
 
+static void *chart_all(void *unused) {
+    static struct rows_chart_row rows[MOST_CUBES];
+    while (next()) {
+        accept(rows_chart(width, table, cells, rows, MOST_CUBES));
+    }
+    return unused;
+}
+
 static void *all_others(void *unused) {
     static uint16_t cubes[MOST_CUBES];
-    static struct rows_chart_row rows[MOST_CUBES];
     static uint8_t codes[MOST_CELLS], file[2 + 2 * MOST_ROWS];
     memset(values, 0, sizeof values);
     memset(cares, 0, sizeof cares);
@@ -52,7 +59,6 @@ static void *all_others(void *unused) {
         accept(rows_spell(width, 0, values, cares));
         accept(rows_cells(width, 0, codes, MOST_CELLS));
         accept(rows_primes(width, table, cells, cubes, MOST_CUBES));
-        accept(rows_chart(width, table, cells, rows, MOST_CUBES));
         accept(rows_essentials(width, table, cells, cubes, MOST_CUBES));
         accept(rows_check(width, table, cells, values, MOST_ROWS, cares, MOST_ROWS));
         accept(rows_write(width, values, MOST_ROWS, cares, MOST_ROWS, file, sizeof file));
@@ -77,6 +83,6 @@ static size_t most_of(void *(*work)(void *), int count, char **names) {
 }
 
 int main(int count, char **names) {
-    printf("%zu %zu\n", most_of(plan_all, count, names), most_of(all_others, count, names));
+    printf("%zu %zu %zu\n", most_of(plan_all, count, names), most_of(chart_all, count, names), most_of(all_others, count, names));
     return 0;
 }

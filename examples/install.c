@@ -18,7 +18,8 @@ static int fail(const char *what, int32_t answer) {
 int main(int argc, char **argv) {
     uint8_t values[CODES], cares[CODES], file[2 + 2 * CODES];
     if (argc != 2) {
-        return fail("the path of the list file is missing", argc);
+        fprintf(stderr, "usage: install FILE\n");
+        return 1;
     }
 
     int32_t planned = rows_plan(WIDTH, table, CODES, values, CODES, cares, CODES);

@@ -23,16 +23,17 @@
  *
  * The caller owns all memory. An array is lent for the call only. It has at least the length that is
  * stated with it, which counts places and not bytes. It does not overlap another lent array (the two
- * bytes of rows_spell are two), and it is not NULL: for a length of 0, any other address will do. A call touches no other memory of the caller,
- * keeps nothing and allocates nothing, so threads may call at the same time, each with its own arrays.
+ * bytes of rows_spell must be distinct), and it is not NULL: for a length of 0, any other aligned
+ * address will do. A call touches no other memory of the caller, keeps nothing and allocates nothing,
+ * so threads may call at the same time, each with its own arrays.
  *
  * A call needs stack: allow rows_plan 1 MB. The most that was measured, on x86-64, is 287 KB for it,
  * 39 KB for rows_chart and 13 KB for the other calls; no bound is proved.
  *
  * Answers
  *
- * An answer of 0 or more is a success, and says what is told with each call. The call fills places from
- * the first one on; those behind them are unchanged.
+ * An answer of 0 or more is a success, and means what is stated with each call. The call fills places
+ * from the first one on; those after them are unchanged.
  *
  * A negative answer is a refusal. It is minus one of these numbers, and then no lent byte is changed:
  *
@@ -105,7 +106,7 @@ int32_t rows_essentials(size_t n, const uint8_t *table, size_t table_len, uint16
 
 /* A shortest list for the table, ascending by cube number, into the first places of values and cares.
  * It matches every wanted code and no barred one. No list that does so has fewer rows, and none with as
- * many rows tests fewer bits. Which of several equally good lists it is, is left open.
+ * many rows tests fewer bits. Which of several equally good lists is written is left open.
  *
  * Answers 10000 * rows + tested bits, summed over the rows: rows is answer / 10000, tested bits is
  * answer % 10000.
