@@ -1,6 +1,6 @@
 -- Lower bounds of covers. A lower bound is a valid inequality: `AtLeast cov a A U b` says that the coefficients a of the rows of any cover add up to b or
 -- more. Inequalities add up, are divided and rounded up, and are carried to a larger weight, so a dual solution is a certificate: the numbers of the
--- columns, or of any other valid inequalities, of which no row gets more than its weight. Branching and dominance go by taking a row out of a
+-- columns, or of any other valid inequalities, of which no row gets more than its weight. Branching and dominance work by taking a row out of a
 -- selection. Assumes nothing.
 use mathlib.Core.Path.{_≡_, refl, ap, subst}
 use mathlib.Core.List.{List, [], _∷_, _++_}
@@ -171,7 +171,7 @@ module _ (cov : ℕ → ℕ → Type 0) where
         go L s (inr m) =
             omega (arith, m .2, b₁ .bound (m .0) (m .1) (λ c u. ⊎-elim (λ y. absurd (left c u .1 y)) (λ y. y) (m .3 c (s c (left c u .0)))))
 
-    -- Dominance: the row r gives way to a selection of A′ that weighs no more and covers its columns of U. Nothing at all does where it covers none.
+    -- Dominance: the row r gives way to a selection of A′ that weighs no more and covers its columns of U. The empty one will do where r covers none.
     pub dominated : {U : ℕ → Type 0} {k : ℕ} (S : List ℕ) → Within A′ S → weight w S ≤ w r → ((c : ℕ) → U c → cov r c → Hits cov S c)
         → AtLeast cov w A′ U k → AtLeast cov w A U k
     unfolding Without

@@ -1,5 +1,5 @@
 -- What the calls of document 01 share: the numbers of refusals with their conditions, an answer, and what is left in a lent place.
--- The greatest width and the most rows of a list stand here once. Assumes nothing.
+-- The greatest width and the most rows of a list are given here once. Assumes nothing.
 use mathlib.Core.Path.{_≡_}
 use Prim.Native.Nat.{ℕ, zero, suc, _^_}
 use mathlib.Core.Bool.{Bool, cond, not, _||_}

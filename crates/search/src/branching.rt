@@ -55,14 +55,14 @@ pub fn times(n: u32, weight: u64) -> u64
     n as u64 * weight
 }
 
-// Whether a columns for m rows are more in proportion than b for n, with one row added to each.
+// Whether a / (m + 1) is above b / (n + 1): a columns for m rows against b for n, with one row added to each.
 fn denser(a: u32, m: u32, b: u32, n: u32) -> bool
     requires { ⌜ (a ≤ columnLimit) × (b ≤ columnLimit) ⌝ }
 {
     times(b, m as u64 + 1) < times(a, n as u64 + 1)
 }
 
-// The column c, if its rows bring more columns in proportion, else the best so far.
+// The column c if its rows bring more columns in proportion, otherwise the best so far.
 fn prefer_column(counts: &Counts, near: &Neighbours, c: usize, best: usize) -> usize
     requires { ⌜ (c < columnLimit) × (best < columnLimit) ⌝ }
     ensures { λ r. ⌜ (r ≡ c) ⊎ (r ≡ best) ⌝ }
@@ -108,7 +108,7 @@ fn covers_more(words: &[u64], weights: &[u32], undecided: columns::Set, i: usize
     n < m
 }
 
-// The row i, if it covers the column c and covers more than the best so far, else that one.
+// The row i if it covers the column c and covers more than the best so far, otherwise that one.
 fn prefer_row(
     words: &[u64],
     weights: &[u32],
