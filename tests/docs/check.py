@@ -69,7 +69,7 @@ def entries(path):
 
 
 def check_files(said):
-    """Each file that is named with its crate exists, and has the names that stand before it."""
+    """Each file that is named with its crate exists, and has the names that precede it."""
     for names, crate, name in re.findall(r"((?:`[^`]+`[,:]?\s+)*)\(([a-z_]+) `([\w/]+)`\)", said):
         page = CRATES / crate / ((name if "/" in name else "specs/" + name) + ".antt")
         expect(page.relative_to(TOP), page.is_file())

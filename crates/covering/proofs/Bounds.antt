@@ -78,7 +78,7 @@ module _ (cov : ℕ → ℕ → Type 0) where
   pub uncoverable : {w : ℕ → ℕ} {A U : ℕ → Type 0} (c k : ℕ) → U c → ((i : ℕ) → A i → cov i c → ⊥) → AtLeast cov w A U k
   uncoverable c k u f = record { bound = λ L l s. let t = hitter L c l (s c u) in absurd (f (t .0) (t .1) (t .2)) }
 
-  -- rows that cover nothing may be left out of account
+  -- rows that cover nothing can be ignored
   module _ (w : ℕ → ℕ) {A A′ : ℕ → Type 0} (either : (i : ℕ) → A i → A′ i ⊎ ((c : ℕ) → cov i c → ⊥)) where
     Trimmed : List ℕ → Type 0
     Trimmed L = (M : List ℕ) × Within A′ M × (weight w M ≤ weight w L) × ((c : ℕ) → Hits cov L c → Hits cov M c)

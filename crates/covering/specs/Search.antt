@@ -1,4 +1,4 @@
--- What the steps of a branch and bound owe: a reduction, and an answer below a limit. Definitions only. Assumes nothing.
+-- What the steps of a branch and bound must give: a reduction, and an answer below a limit. Definitions only. Assumes nothing.
 use mathlib.Core.Bool.{Bool, false, _||_}
 use Prim.Native.Nat.{ℕ, _+_, _≤_, _<_}
 use lib.Dec.{eqb}

@@ -116,7 +116,7 @@ module _ (n : ℕ) (t : List ℕ) where
   pub table-refuses : (rest : List Condition) (k : ℕ) → firstOf (tableConditions n t) ≡ suc k → firstOf (tableConditions n t ++ rest) ≡ suc k
   table-refuses rest k e = conditions-refuse (tableConditions n t) rest k e
 
--- a call on a table that is refused for one condition more, with 4
+-- a call on a table that is refused for one more condition, with 4
 module _ (n : ℕ) (t : List ℕ) (b : Bool) where
   abbrev pub then-four : ℕ
   then-four = firstOf (tableConditions n t ++ (when b 4 ∷ []))

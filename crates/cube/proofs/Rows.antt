@@ -60,7 +60,7 @@ fits-bit v zero c a b l t = omega arith
 fits-bit v (suc zero) c a b l t = ⊎-elim (λ e. absurd (omega arith)) (λ e. omega arith) (fits-e v c t)
 fits-bit v (suc (suc w)) c a b l t = absurd (omega arith)
 
--- the cube of a row with one variable more
+-- the cube of a row with one more variable
 module _ (n v w : ℕ) where
   rest-cube : ℕ
   rest-cube = cubeOf n (v / 2) (w / 2)

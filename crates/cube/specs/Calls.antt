@@ -94,7 +94,7 @@ abbrev pub countAnswer : Counted → Answer ℕ
 countAnswer (Count k) = gives k
 countAnswer (Refused k) = refuses k
 
--- What a call that writes a list and answers its length promises of the answer and of the lent places, refused input included.
+-- What a call that writes a list and answers its length promises about the answer and the lent places, refused input included.
 pub record Listed {A : Type 0} (refusal : ℕ) (list old new : List A) (r : Counted) : Type 0 where
   pub answer : countAnswer r ≡ answered refusal (length list)
   pub places : new ≡ written refusal list old

@@ -335,7 +335,7 @@ unfolding run
 run-length f zero i = refl
 run-length f (suc m) i = ap suc (run-length f m (suc i))
 
--- one value more
+-- one more value
 pub run-more : (f : ℕ → ℕ) (m i : ℕ) → run (suc m) i f ≡ run m i f ++ (f (i + m) ∷ [])
 unfolding run
 run-more f zero i = ap (λ (k : ℕ). f k ∷ []) (sym (add-zero i))

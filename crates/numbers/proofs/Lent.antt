@@ -75,7 +75,7 @@ front-count {xs} p = p .behind ∙ zero-add (length xs)
 pub front-places : {xs old new : List ℕ} {next : ℕ} → Puts xs old 0 new next → length xs ≤ length old → new ≡ xs ++ drop (length xs) old
 front-places {xs} {old} p l = p .places ∙ sets-front xs old l
 
--- the values of the first elements of a list, with one element more
+-- the values of the first elements of a list, with one more element
 pub map-more : (f : ℕ → ℕ) (qs old : List ℕ) {new : List ℕ} (i x : ℕ) → i < length qs → Puts (map f (take i qs)) old 0 new i → x ≡ f (getD qs i 0)
     → Puts (map f (take (i + 1) qs)) old 0 (set new i x) (i + 1)
 map-more f qs old {new} i x l p v =

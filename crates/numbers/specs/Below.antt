@@ -1,4 +1,4 @@
--- The numbers below a bound: whether every one of them passes a test, whether some one does, which of them do, and a function's values over them;
+-- The numbers below a bound: whether every one of them passes a test, whether one of them does, which of them do, and a function's values over them;
 -- and of a list of numbers, how many pass, whether a number is in it, and that it holds some numbers once each and no others. `proofs/Below.antt`
 -- has the laws. Assumes nothing.
 use mathlib.Core.Path.{_≡_}

@@ -16,7 +16,7 @@ type Counts = [u32; columns::LIMIT];
 // The columns that the rows of each column cover.
 type Neighbours = [columns::Set; columns::LIMIT];
 
-// A row with the columns of a set, noted at each of them: one row more, and the columns that it brings.
+// A row with the columns of a set, noted at each of them: one more row, and the columns that it brings.
 fn note(counts: &mut Counts, near: &mut Neighbours, set: columns::Set) {
     let mut c = columns::next(set, 0);
     while c < columns::LIMIT {
@@ -108,7 +108,7 @@ fn covers_more(words: &[u64], weights: &[u32], undecided: columns::Set, i: usize
     n < m
 }
 
-// The row i if it covers the column c and covers more than the best so far, otherwise that one.
+// The row i if it covers the column c and covers more than the best so far, otherwise the latter.
 fn prefer_row(
     words: &[u64],
     weights: &[u32],

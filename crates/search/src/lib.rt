@@ -53,7 +53,7 @@ fn taking(found: Solution, r: usize, w: u64, limit: u64) -> Solution
     }
 }
 
-// The rows that a reduction took, with the answer for what it left: one node more, and one call deeper.
+// The rows that a reduction took, with the answer for what it left: one more node, and one call deeper.
 fn with_taken(rest: Remaining, found: Solution) -> Solution
     requires { ⌜ (rest .cost < costLimit) × (found .weight < costLimit) ⌝ }
     ensures { λ a. ⌜ WithTaken rest found a ⌝ }

@@ -1,4 +1,4 @@
--- Texts put into a buffer one after the other are one text; the lines of one row more; and how long the lines of a list are.
+-- Texts put into a buffer one after the other are one text; the lines of one more row; and how long the lines of a list are.
 -- Assumes nothing.
 use mathlib.Core.Path.{_≡_, sym, ap, _∙_, subst, subst₂}
 use mathlib.Core.List.{List, [], _∷_, _++_, append-nil, append-assoc}

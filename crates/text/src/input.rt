@@ -1,4 +1,4 @@
-// The grammar of the input, a byte at a time. However long the run is, only the cells of the widest table and one more are kept, in a
+// The grammar of the input, a byte at a time. However long the run is, at most the cells of the widest table and one more are kept, in a
 // lent buffer.
 //
 //     let mut cells = [0u8; MOST_CELLS];
