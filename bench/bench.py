@@ -7,7 +7,7 @@
 It builds bench/solve.c over the proved search and bench/stack.c over the calls for C, takes the
 charts from tests/charts.py, compares every optimum with the listed one and with that of glpsol
 and cbc, and prints the times of whole processes, their ratios and the stack that was used. Run
-from the top of the repository. What is missing of Debian's glpk-utils and coinor-cbc it installs
+from the top of the repository. It installs Debian's glpk-utils and coinor-cbc, if missing,
 by apt-get.
 """
 import ctypes

@@ -1,5 +1,5 @@
 #!/usr/bin/env python3
-"""What each part of the search gains: the nodes on the listed tables with one part taken out.
+"""What each part of the search saves: the nodes on the listed tables with one part taken out.
 
     bench/parts.py               every variant
     bench/parts.py NAME...       the named ones
@@ -26,7 +26,7 @@ DUAL = "bound/src/dual.rt"
 SEARCH = "search/src/lib.rt"
 BRANCHING = "search/src/branching.rt"
 
-# A program that solves charts and writes the nodes in all, the most for one chart, and the sum of the weights.
+# A program that solves charts and writes the total of the nodes, the most for one chart, and the sum of the weights.
 SOLVING = """use libc::STDOUT_FILENO;
 
 fn solve(words: &[u64], weights: &[u32], columns: u64, sums: &mut [u64; 3]) {
@@ -108,7 +108,7 @@ def program(problems):
 
 
 def measure(edits, text):
-    """The nodes in all and at most, and the sum of the optima, of a variant; None where it does not end within the ten seconds of `rt try`."""
+    """The nodes in total and at most, and the sum of the optima, of a variant; None where it does not end within the ten seconds of `rt try`."""
     shutil.rmtree(OUT, ignore_errors=True)
     shutil.copytree("crates", OUT + "/crates")
     shutil.copy("crates.txt", OUT)

@@ -20,7 +20,7 @@ static double microseconds(void) {
     return now.tv_sec * 1e6 + now.tv_nsec / 1e3;
 }
 
-/* The next number of standard input; whether there is one. */
+/* Reads the next number from standard input, and returns whether there is one. */
 static int number(uint64_t *value) {
     int byte = getchar_unlocked();
     while (byte != EOF && !isxdigit(byte)) {

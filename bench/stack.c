@@ -15,7 +15,7 @@ static unsigned width;
 static size_t cells;
 static uint8_t table[MOST_CELLS], values[MOST_ROWS], cares[MOST_ROWS];
 
-/* The next table of the file; whether there is one. */
+/* Reads the next table of the file, and returns whether there is one. */
 static int next(void) {
     char text[MOST_CELLS + 1];
     if (fscanf(tables, "%u %64s %*u %*u", &width, text) != 2) {

@@ -27,7 +27,7 @@ def implicants(width, cells):
 
 
 def primes(width, cells):
-    """The implicants that no implicant with one tested bit less contains."""
+    """The implicants that no implicant with one tested bit fewer contains."""
     found = implicants(width, cells)
     for tested, level in enumerate(found):
         for value, care in level:

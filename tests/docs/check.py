@@ -1,6 +1,6 @@
 #!/usr/bin/env python3
-"""Holds the documents to the sources: what docs/PROMISES.md names is there, it names every must-fail edit, README.md lists the believed pages with all that
-they cite, and their lines are counted rightly.
+"""Checks the documents against the sources: what docs/PROMISES.md names exists, it names every must-fail edit, README.md lists the believed pages with all that
+they cite, and their lines are counted correctly.
 
     python3 check.py             prints each name that is not there, and at the end 'N passed, M failed'
     python3 check.py --pages     the believed pages that README.md lists, each with its number of lines, as docs/TRUST.md has them
@@ -28,7 +28,7 @@ def expect(what, holds):
 
 
 def text(pattern):
-    """What stands in all files that a pattern finds below crates/."""
+    """The text of all files that a pattern finds below crates/."""
     return "\n".join(path.read_text() for path in sorted(CRATES.glob(pattern)))
 
 
@@ -50,7 +50,7 @@ def has_function(name):
 
 
 def entries(path):
-    """The entries of the promises: the words in front of the colon, and what follows it, lines joined."""
+    """The entries of the promises: the words before the colon, and what follows it, lines joined."""
     entry = None
     for line in path.read_text().splitlines():
         start = re.match(r"  - ([a-z][^:`]*(?:\([^)]*\))?[^:`]*): (.*)", line)
@@ -69,7 +69,7 @@ def entries(path):
 
 
 def check_files(said):
-    """Each file that is named with its crate, and that it has the names in front of it."""
+    """Each file that is named with its crate exists, and has the names that precede it."""
     for names, crate, name in re.findall(r"((?:`[^`]+`[,:]?\s+)*)\(([a-z_]+) `([\w/]+)`\)", said):
         page = CRATES / crate / ((name if "/" in name else "specs/" + name) + ".antt")
         expect(page.relative_to(TOP), page.is_file())
@@ -101,7 +101,7 @@ def check_promises():
 
 
 def pages():
-    """The pages of README.md's reading order: each path, and the names that follow it stand in the same folder."""
+    """The pages of README.md's reading order: each path, and the names that follow it are in the same directory."""
     readme = (TOP / "README.md").read_text()
     order = readme[readme.index("## What to believe"):readme.index("## The crates")]
     found, folder = [], None

@@ -2,7 +2,7 @@
 """Computes the worked examples of examples.txt by brute force, and says where examples.txt, or the program `examples` of the crate of that name, differs.
 
     python3 check.py            all examples
-    python3 check.py NAME..     what is computed of these: primes, essential ones marked *, and the counts
+    python3 check.py NAME..     what is computed for these: primes, essential ones marked *, and the counts
     python3 check.py --print    what the program must print: the file crates/examples/stdout
 
 A cube is a string of 0, 1 and -, x1 first. It is handled as the set of codes that it matches, a number whose bit c
@@ -108,13 +108,13 @@ def examples():
 
 
 def in_the_program():
-    """The same of the program's source: name, width, table."""
+    """The same from the program's source: name, width, table."""
     for name, width, table in re.findall(r'example\(\s*b"([^"]*)",\s*(\d+),\s*b"([^"]*)",?\s*\)', (CRATE / 'src' / 'documents.rt').read_text()):
         yield name, int(width), table
 
 
 def sections(text):
-    """The sections of what the program prints, by name. `rt check` holds the program to that file."""
+    """The sections of what the program prints, by name. `rt check` checks the program against crates/examples/stdout."""
     return {part.split('\n')[0]: part for part in re.findall(r'^\S.*\n(?: .*\n)*', text, re.M)}
 
 

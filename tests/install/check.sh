@@ -1,5 +1,6 @@
 #!/usr/bin/env bash
-# Installs into a temporary folder, and compiles and runs examples/install.c with what was installed. Prints each failure, and at the end 'N passed, 0 failed'.
+# Installs into a temporary directory, and compiles and runs examples/install.c with what was installed. Prints each failure, and at the end
+# 'N passed, 0 failed'.
 set -euo pipefail
 cd "$(dirname "$0")/../.."
 

@@ -133,7 +133,7 @@ int32_t try_chart(size_t n, const uint8_t *cells, size_t table_len, size_t rows_
     return answer;
 }
 
-/* Whether a list is formed, right for the table, ascending by cube number, and has this many tested bits. Whether a shorter one exists is compared by
+/* Whether a list is formed, right for the table, ascending by cube number, and has this many tested bits. Whether a shorter one exists is tested by
  * tests/minimum. */
 static int planned(size_t n, const uint8_t *table, const uint8_t *values, const uint8_t *cares, size_t rows, unsigned bits) {
     int ok = verdict(n, table, values, cares, rows) == 0;

@@ -4,7 +4,7 @@
 
 #include "client.h"
 
-/* Some of those that are no width would be one if bits were cut off. */
+/* Some of the numbers that are not widths would be widths if bits were cut off. */
 const size_t widths[] = {
     1, 2, 3, 4, 5, 6,
     0, 7, 8, 9, 32, 63, 64, 65, 255, 256, 257, 262, 65537, 65542, 4294967297, 4294967302,

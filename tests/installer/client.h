@@ -17,7 +17,7 @@ enum { ARRAYS = 3, MOST_BYTES = 20000 };
 /* The call that is made; printed should it touch memory that was not lent. */
 extern const char *calling;
 
-/* Lends array number `which`, with these contents or with random ones. It lies within a larger one: by chance it begins or ends where memory lies that nobody
+/* Lends array number `which`, with these contents or with random ones. It lies within a larger one: at random, it starts or ends next to memory that nobody
  * may touch; its own bytes and those on its other side are remembered. It is good until that number is lent again. */
 void *lend(size_t which, const void *contents, size_t bytes);
 void *lend_random(size_t which, size_t bytes);
@@ -25,7 +25,7 @@ void *lend_random(size_t which, size_t bytes);
 /* Whether everything but the first `used` bytes of that array is as it was lent. */
 int kept(size_t which, size_t used);
 
-/* calls.c: one call each, whose answer and lent memory are compared with what document 01 says. They answer what the call answered. */
+/* calls.c: one call each, whose answer and lent memory are compared with what document 01 says. They return what the call returned. */
 int32_t try_spell(size_t n, size_t cube);
 int32_t try_cells(size_t n, size_t cube, size_t codes_len);
 int32_t try_primes(size_t n, const uint8_t *table, size_t table_len, size_t cubes_len);
@@ -35,11 +35,11 @@ int32_t try_plan(size_t n, const uint8_t *table, size_t table_len, size_t values
 int32_t try_check(size_t n, const uint8_t *table, size_t table_len, const uint8_t *values, size_t values_len, const uint8_t *cares, size_t cares_len);
 int32_t try_write(size_t n, const uint8_t *values, size_t values_len, const uint8_t *cares, size_t cares_len, size_t file_len);
 
-/* client.c: the widths 1 to 6, then numbers that are no width. */
+/* client.c: the widths 1 to 6, then numbers that are not widths. */
 extern const size_t widths[];
 extern const size_t width_count;
 
-/* The codes and the cubes of a width; of width 6 where the number is no width. */
+/* The codes and the cubes of a width; of width 6 where the number is not a width. */
 size_t codes(size_t n);
 size_t cubes(size_t n);
 

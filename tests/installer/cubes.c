@@ -1,9 +1,9 @@
 #include "client.h"
 
-/* Cube numbers that would be another one if bits were cut off, and the highest. */
+/* Cube numbers that would become other ones if bits were cut off, and the highest. */
 static const size_t high[] = {65535, 65536, 65537, 4294967295, 4294967296, 4294967297, SIZE_MAX / 2, SIZE_MAX / 2 + 1, SIZE_MAX - 1, SIZE_MAX};
 
-/* Spell and Cells at each width for the numbers from 0 to 999, which has every cube of every width, and for the high ones. */
+/* Spell and Cells at each width for the numbers from 0 to 999, which include every cube of every width, and for the high ones. */
 void every_cube(void) {
     for (size_t i = 0; i < width_count; i++) {
         size_t n = widths[i];
@@ -18,7 +18,7 @@ void every_cube(void) {
     }
 }
 
-/* Cells with every number of places: for the first cubes, the last, one between, and numbers that are no cube. */
+/* Cells with every number of places: for the first cubes, the last, one between, and numbers that are not cubes. */
 void places_for_codes(void) {
     for (size_t i = 0; i < width_count; i++) {
         size_t n = widths[i];

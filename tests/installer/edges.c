@@ -7,7 +7,7 @@
 
 static uint8_t wanted[128], barred[128], rows[300];
 
-/* A call that must answer a number, and be right in all else. */
+/* A call that must answer this number, and be right in everything else. */
 static void answers(const char *sentence, int32_t answer, int32_t want) { expect(answer == want, "%s: %d, expected %d", sentence, answer, want); }
 
 /* Every call at one width that is refused, the rest being as it should be at width 6, or at that width where it has a table. */
@@ -38,7 +38,7 @@ static void width_accepted(size_t n, size_t codes, size_t cubes) {
     answers(sentence, try_write(n, rows, 1, rows, 1, 4), 4);
 }
 
-/* A table that every call on a table refuses, or none does, with places enough. */
+/* A table that every call on a table refuses, or none does, with enough places. */
 static void table(const char *sentence, const uint8_t *cells, size_t len, int32_t primes, int32_t essentials, int32_t plan, int32_t check) {
     answers(sentence, try_primes(6, cells, len, 729), primes);
     answers(sentence, try_chart(6, cells, len, 729), primes);
@@ -139,7 +139,7 @@ void cases(void) {
     }
 }
 
-/* Arrays so long that their length is another one once it is cut to 32 bits. Nobody touches most of their pages. */
+/* Arrays so long that their length becomes a different number once it is cut to 32 bits. Nobody touches most of their pages. */
 void long_arrays(void) {
     size_t more = (size_t)1 << 32, half = more + 4096;
     uint8_t *large = mmap(NULL, 2 * half, PROT_READ | PROT_WRITE, MAP_PRIVATE | MAP_ANONYMOUS | MAP_NORESERVE, -1, 0);

@@ -38,7 +38,7 @@ static void try_list(size_t n, const uint8_t *table, const struct list *list, si
     try_write(n, list->values, rows, list->cares, rows, need + random_below(9));
 }
 
-/* At each width, a list of one row for each value and care that a byte can hold: how many are answered wrongly? */
+/* At each width, a list of one row for each value and care that a byte can hold: counts the wrong answers. */
 void every_row(void) {
     static const uint8_t table[MOST_CODES];
     for (size_t n = 1; n <= WIDEST; n++) {
@@ -105,7 +105,7 @@ void random_lists(void) {
     }
 }
 
-/* Lists that Plan wrote, and the same with a bit of one row no longer tested, or tested: the check must tell. */
+/* Lists that Plan wrote, and the same with a bit of one row no longer tested, or tested: the check must notice. */
 void planned_lists(void) {
     for (size_t n = 1; n <= WIDEST; n++) {
         for (size_t t = 0; t < 500; t++) {

@@ -67,7 +67,7 @@ static void try_places(size_t n, const uint8_t *table, size_t table_len) {
     }
 }
 
-/* Every set of the conditions 1, 2, 3 and 4, in several ways each: a width or none; a table of the right length, shorter, longer or empty; no cell above 2, or
+/* Every set of the conditions 1, 2, 3 and 4, in several ways each: a width or not; a table of the right length, shorter, longer or empty; no cell above 2, or
  * one that is 3 or more at the start, in the middle or at the end; places as in try_places. */
 void refusals_of_tables(void) {
     static const uint8_t above[] = {3, 4, 255};

@@ -1,7 +1,7 @@
-/* Compares the lists that rows_plan writes with what programs find that share no code with it and are meant to be obviously right:
+/* Compares the lists that rows_plan writes with what independent programs find, which share no code with it and are meant to be obviously right:
  *   - for every table of widths 1, 2 and 3, by trying every set of at most 2^(n-1) cubes;
  *   - for random tables of widths 1 to 6 with at most 16 wanted codes, by the sets of wanted codes;
- *   - for the tables of the files given, whose rows and bits are known, each within the seconds of processor time that are given.
+ *   - for the tables of the files given, whose rows and bits are known, each within the given number of seconds of processor time.
  * Each list is tried on all codes, and checked by rows_check. All this is done with the stack that rows.h asks for, 1 MB, and memory behind it that nobody may
  * touch. Prints each failure, and at the end 'N passed, 0 failed'.
  *
@@ -143,7 +143,7 @@ static void random_tables(size_t n, size_t tables, size_t most) {
     }
 }
 
-/* A line of a file of tables: width, cells, rows, bits. Answers whether it has that form. */
+/* A line of a file of tables: width, cells, rows, bits. Returns whether it has that form. */
 static int known_table(const char *line) {
     char cells[MOST_CODES + 1], more;
     uint8_t table[MOST_CODES];

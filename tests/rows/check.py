@@ -1,8 +1,8 @@
 #!/usr/bin/env python3
 """Runs the program rows and compares what it prints, byte for byte. Prints each failure, and at the end 'N passed, 0 failed'.
 
-The texts are the files in tests/rows/texts (NAME.in and NAME.out), whole and in pieces of one byte, and long runs that are made here. A read that fails does
-not pass for the end of the input; a write that fails is told on standard error. Each run has 16 MB of addresses."""
+The texts are the files in tests/rows/texts (NAME.in and NAME.out), whole and in pieces of one byte, and long runs generated here. A read that fails does
+not pass for the end of the input; a write that fails is reported on standard error. Each run has 16 MB of addresses."""
 import fcntl
 import os
 import pathlib
@@ -54,12 +54,12 @@ def run(text):
 
 
 def unread(pipe):
-    """How many bytes of a pipe were not read yet."""
+    """How many bytes of a pipe have not been read yet."""
     return struct.unpack("i", fcntl.ioctl(pipe, termios.FIONREAD, bytes(4)))[0]
 
 
 def feed(pieces):
-    """The same for a text in pieces. Each piece is written once the one before was read, so that each is a read of its own."""
+    """The same for a text in pieces. Each piece is written once the one before has been read, so that each is a read of its own."""
     read_end, write_end = os.pipe()
     process = start(read_end)
     os.close(read_end)
@@ -86,7 +86,7 @@ def texts():
 
 
 def pieces():
-    """Texts of thousands of bytes in as many pieces, and a table broken at each of its places."""
+    """Texts of thousands of bytes in as many pieces, and a table split at each of its places."""
     cells = b"01-1" * (THOUSANDS // 4)
     for name, text, want in [
         ("a run in thousands of pieces", b"6\n" + cells + b"\n", b"refused 2\n"),
@@ -100,7 +100,7 @@ def pieces():
 
 
 def long_runs():
-    """Runs of ten million cells: within a second of the processor's time, and in constant memory."""
+    """Runs of ten million cells: within a second of processor time, and in constant memory."""
     cells = b"01-1" * (LONG // 4)
     for name, text, want in [
         ("a long run", b"6\n" + cells + b"\n", b"refused 2\n"),
@@ -122,7 +122,7 @@ def closed(fd):
 
 
 def waiting_pipe(text):
-    """A pipe that holds a text and may get more. A read of it does not wait: it fails when there is nothing."""
+    """A pipe that holds a text and may get more. Its read end is non-blocking: a read fails when there is nothing."""
     read_end, write_end = os.pipe()
     os.set_blocking(read_end, False)
     os.write(write_end, text)
@@ -130,7 +130,7 @@ def waiting_pipe(text):
 
 
 def reads():
-    """Reads that fail, and input that has nothing."""
+    """Reads that fail, and empty input."""
     refused = (b"refused 9\n", b"", 0)
     expect("closed standard input", ended(start(None, before=closed(0))), refused)
     with open("/dev/null", "rb") as nothing:
@@ -146,7 +146,7 @@ def reads():
 
 
 def full_pipe():
-    """A pipe without room. A write to it does not wait: it fails."""
+    """A pipe without room. Its write end is non-blocking: a write fails."""
     read_end, write_end = os.pipe()
     os.set_blocking(write_end, False)
     try:
@@ -157,7 +157,7 @@ def full_pipe():
 
 
 def short_files():
-    """Files of at most ten bytes; a write that would pass that takes what fits, and the next one fails."""
+    """Files of at most ten bytes; a write that would go past that takes what fits, and the next one fails."""
     little_memory()
     signal.signal(signal.SIGXFSZ, signal.SIG_IGN)
     resource.setrlimit(resource.RLIMIT_FSIZE, (10, 10))

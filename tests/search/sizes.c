@@ -1,4 +1,4 @@
-/* The search for C: sizes that do not fit are refused with 2^64 - 1, and `effort` and what stands beside it are left alone; 768 rows still fit. Prints each
+/* The search for C: sizes that do not fit are refused with 2^64 - 1, and `effort` and what is beside it are left alone; 768 rows still fit. Prints each
  * failure, and at the end 'N passed, 0 failed'. */
 #include <inttypes.h>
 #include <stdio.h>
@@ -10,7 +10,7 @@ enum { MOST_ROWS = 768, ROOM = 2000, SIDE = 4 };
 static const uint64_t beside = 0xA5A5A5A5A5A5A5A5u;
 static int passed, failed;
 
-/* This many rows and this many weights must be answered like this. Row i has column i % 64 and weighs 1000 + i. */
+/* This many rows and this many weights must get this answer. Row i has column i % 64 and weighs 1000 + i. */
 static void expect(size_t rows, size_t same, uint64_t want) {
     static uint64_t words[ROOM], effort[SIDE + 2 + SIDE];
     static uint32_t weights[ROOM];

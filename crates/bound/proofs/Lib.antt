@@ -1,2 +1,2 @@
--- Why prices that no row pays too much for bound every cover.
+-- Why prices bound every cover if no row pays too much.
 pub mod Pricing

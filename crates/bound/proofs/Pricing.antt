@@ -50,7 +50,7 @@ module _ (words weights : List ℕ) where
   PaidFor : RowSet → (ℕ → Bool) → List ℕ → Type 0
   PaidFor live p prices = (i : ℕ) → i < rowCount words → Member live i → worth prices (λ c. has (covered words i) c && p c) ≤ weightOf weights i
 
-  -- a live row stands before the end, or covers nothing
+  -- a live row is before the end, or covers nothing
   Row : RowSet → ℕ → Type 0
   Row live i = Member live i × (i < rowCount words)
 

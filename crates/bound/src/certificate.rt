@@ -19,7 +19,7 @@ pub struct Bounded {
     pub live: rows::Set,
 }
 
-// A price as a number that has room for sums of prices.
+// A price as a number wide enough for sums of prices.
 fn wide(x: u32) -> u64
     ensures { λ r. ⌜ (r ≡ x) × (r < weightLimit) ⌝ }
 {

@@ -1,4 +1,4 @@
-// Dual ascent: prices for the columns, as high as the rows' weights allow. A heuristic: nothing is promised of the prices, since the certificate is
+// Dual ascent: prices for the columns, as high as the rows' weights allow. A heuristic: nothing is promised about the prices, since the certificate is
 // checked. A row's slack is its weight less the prices of its undecided columns. Prices and slacks are added and subtracted modulo 2 ^ 32.
 ghost use Prim.Native.Nat.{_≤_, _<_};
 ghost use Rattle.matrix.specs.Sets.{columnLimit, rowLimit};
@@ -37,7 +37,7 @@ fn least_slack(slack: &Slacks, set: &rows::Set, end: usize) -> u32
     least
 }
 
-// An amount added to the slack of the rows of a set below `end`.
+// Adds an amount to the slack of the rows of a set below `end`.
 fn add(slack: &mut Slacks, set: &rows::Set, end: usize, amount: u32)
     requires { ⌜ end ≤ rowLimit ⌝ }
 {
@@ -48,7 +48,7 @@ fn add(slack: &mut Slacks, set: &rows::Set, end: usize, amount: u32)
     }
 }
 
-// A new price for the column c, and the slack of its rows changed with it.
+// Sets a new price for the column c, and changes the slack of its rows with it.
 fn set_price(
     by_column: &transposed::ByColumn,
     prices: &mut Prices,
@@ -67,7 +67,7 @@ fn set_price(
     add(slack, &by_column[c], end, amount);
 }
 
-// The price of the column c raised by the least slack of its rows.
+// Raises the price of the column c by the least slack of its rows.
 fn raise(
     by_column: &transposed::ByColumn,
     prices: &mut Prices,
@@ -82,7 +82,7 @@ fn raise(
     set_price(by_column, prices, slack, end, c, price);
 }
 
-// The prices of the columns of a set raised.
+// Raises the prices of the columns of a set.
 fn raise_all(
     by_column: &transposed::ByColumn,
     prices: &mut Prices,
@@ -124,7 +124,7 @@ fn level_of(n: usize) -> usize
     if n < LEVELS - 1 { n } else { LEVELS - 1 }
 }
 
-// The prices of the undecided columns raised, those with few rows first.
+// Raises the prices of the undecided columns, those with few rows first.
 fn ascend(
     by_column: &transposed::ByColumn,
     prices: &mut Prices,
@@ -142,7 +142,7 @@ fn ascend(
     }
 }
 
-// The prices of the columns of a set put back to what they were.
+// Puts the prices of the columns of a set back to what they were.
 fn restore(
     by_column: &transposed::ByColumn,
     prices: &mut Prices,
@@ -174,8 +174,8 @@ fn columns_of_rows(words: &[u64], set: &rows::Set) -> columns::Set
     found
 }
 
-// The price of the column c released and those of its neighbours raised, unless the prices are then worth less together than they were. What they are
-// worth now.
+// Releases the price of the column c and raises those of its neighbours, unless the prices are then worth less together than they were. Returns what
+// they are worth now.
 fn retry(
     words: &[u64],
     by_column: &transposed::ByColumn,
@@ -210,7 +210,7 @@ fn retry(
     worth
 }
 
-// Each undecided column retried.
+// Retries each undecided column.
 fn improve(
     words: &[u64],
     by_column: &transposed::ByColumn,
@@ -228,7 +228,7 @@ fn improve(
     }
 }
 
-// The prices of the columns of a set cut down to a share.
+// Cuts the prices of the columns of a set down to a share.
 fn cap(prices: &mut Prices, set: columns::Set, share: u32) {
     let mut c = columns::next(set, 0);
     while c < columns::LIMIT {

@@ -10,7 +10,7 @@ use matrix::rows;
 pub mod certificate;
 pub mod dual;
 
-// A lower bound, and the live rows that a cover below the limit can have: by an ascent from zero, and by one from a fair share unless that is enough.
+// A lower bound, and the live rows that a cover below the limit can have: by an ascent from zero, and by one from a fair share unless the first is enough.
 pub fn tighten(
     words: &[u64],
     weights: &[u32],

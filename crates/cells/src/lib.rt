@@ -45,7 +45,7 @@ pub fn split_at_first(n: usize, q: usize) -> Split
     Split::Halves(q - 2 * weight, q - weight)
 }
 
-// Writes the codes of q from place `at` on and returns the place behind them.
+// Writes the codes of q from place `at` on and returns the place after them.
 fn write_codes(n: usize, q: usize, out: &mut [u8], at: usize) -> usize
     requires { ⌜ RoomForCodes n q (now out) at ⌝ }
     ensures { λ r. ⌜ Puts (codesOf n q) (now (out .entry)) at (now (out .exit)) r ⌝ }
@@ -62,7 +62,7 @@ fn write_codes(n: usize, q: usize, out: &mut [u8], at: usize) -> usize
     }
 }
 
-// The codes that a cube matches into the first bytes, ascending: how many there are, or the number of the refusal.
+// Writes the codes that a cube matches into the first bytes, ascending. Answers how many there are, or the number of the refusal.
 pub fn cells(n: usize, q: usize, out: &mut [u8]) -> Counted
     ensures { λ r. ⌜ Listed (cellsRefuses n q (length (now (out .entry)))) (codesOf n q) (now (out .entry)) (now (out .exit)) r ⌝ }
 {

@@ -19,6 +19,6 @@ chartRow n t q = record { cube = q; word = columnsOf n t q; literals = cubeLiter
 abbrev pub chartOf : ℕ → List ℕ → List ChartRow
 chartOf n t = map (chartRow n t) (primesOf n t)
 
--- What Chart promises of its answer and of the lent rows, refused input included: what every call that writes a list promises.
+-- What Chart promises about its answer and the lent rows, refused input included: what every call that writes a list promises.
 abbrev pub Charted : ℕ → List ℕ → List ChartRow → List ChartRow → Counted → Type 0
 Charted n t old new r = Listed (primesRefuses n t (length old)) (chartOf n t) old new r

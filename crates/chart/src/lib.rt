@@ -1,4 +1,4 @@
-// Chart: a lent list of rows, one per prime. The core on parallel arrays, `chart_arrays::build`, finds what stands in them; here
+// Chart: a lent list of rows, one per prime. The core on parallel arrays, `chart_arrays::build`, finds what they hold; here
 // they are copied into the lent rows.
 //
 //     let mut rows = [ChartRow { cube: 0, word: 0, literals: 0 }; 9];
@@ -14,7 +14,7 @@ ghost use Rattle.cube.specs.Calls.{widest, answered, countAnswer};
 ghost use Rattle.chart.specs.Rows.{Charted};
 ghost use Rattle.chart.specs.Steps.{rowAt, arrayRows, Copyable, Prepares};
 
-// A chart row: cube number, code word, tested bits, laid out as C does.
+// A chart row: cube number, code word, tested bits, laid out as C would lay it out.
 #[repr(C)]
 pub struct ChartRow {
     pub cube: u16,
@@ -84,7 +84,7 @@ fn answer(prepared: Prepared) -> Counted
     Counted::Count(prepared.chart.rows)
 }
 
-// The chart of a table into the first of the lent rows, one per prime: how many there are, or the number of the refusal.
+// Writes the chart of a table into the first of the lent rows, one per prime. Answers how many there are, or the number of the refusal.
 pub fn chart(n: usize, table: &[u8], rows: &mut [ChartRow]) -> Counted
     ensures { λ r. ⌜ Charted n (now (table .entry)) (now (rows .entry)) (now (rows .exit)) r ⌝ }
 {

@@ -24,7 +24,7 @@ unfolding wordOf
 word-lt zero f = lit< tt
 word-lt (suc m) f = omega (arith, pow-suc 2 m, word-lt m f, flag-times (f m) (2 ^ m))
 
--- one code more, as a loop has it
+-- one more code, as a loop has it
 pub word-more : (m : ℕ) (f : ℕ → Bool) {w w′ : ℕ} → w ≡ wordOf m f → w′ ≡ w + flag (f m) * 2 ^ m → w′ ≡ wordOf (m + 1) f
 unfolding wordOf
 word-more m f e g = g ∙ ap (λ (i : ℕ). i + flag (f m) * 2 ^ m) e ∙ sym (ap (λ (i : ℕ). wordOf i f) (add-one m))

@@ -1,5 +1,5 @@
 -- The chart on parallel arrays, place i of each for the prime at place i: "one per prime in that order: cube number, a 64-bit word whose bit c tells
--- that wanted code c is matched, tested bits." Chart, Essentials and Plan go by it; no promise of theirs cites it. Assumes nothing.
+-- that wanted code c is matched, tested bits." Chart, Essentials and Plan use it; none of their promises cites it. Assumes nothing.
 use mathlib.Core.Path.{_≡_}
 use mathlib.Core.Bool.{Bool, _&&_}
 use mathlib.Core.List.{List}

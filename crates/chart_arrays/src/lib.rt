@@ -78,7 +78,7 @@ fn literals(n: usize, q: usize) -> u8
     count
 }
 
-// The words of the first cubes.
+// Fills in the words of the first cubes.
 fn fill_words(n: usize, table: &[u8], cubes: &[u16], count: usize, words: &mut [u64])
     requires { ⌜ Chartable n (now table) (now cubes) count (length (now words)) ⌝ }
     ensures { λ _. ⌜ ((i : ℕ) → i < count → getD (now (words .exit)) i 0 ≡ columnsOf n (now (table .entry)) (getD (now (cubes .entry)) i 0)) ⌝ }
@@ -90,7 +90,7 @@ fn fill_words(n: usize, table: &[u8], cubes: &[u16], count: usize, words: &mut [
     }
 }
 
-// The tested bits of the first cubes, place by place.
+// Fills in the tested bits of the first cubes, place by place.
 fn fill_literals(n: usize, cubes: &[u16], count: usize, into: &mut [u8])
     requires { ⌜ (n ≤ widest) × (count ≤ length (now cubes)) × (count ≤ length (now into)) ⌝ }
     ensures { λ _. ⌜ ((i : ℕ) → i < count → getD (now (into .exit)) i 0 ≡ cubeLiterals n (getD (now (cubes .entry)) i 0)) ⌝ }

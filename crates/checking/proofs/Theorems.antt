@@ -1,4 +1,4 @@
--- The theorem of `specs/Theorems.antt`: what the verdict says is so, and a verdict of which what it says is so is the one. Assumes nothing.
+-- The theorem of `specs/Theorems.antt`: what the verdict says is true, and a verdict that says something true is the one given. Assumes nothing.
 use mathlib.Core.Path.{_≡_, refl, sym, ap, _∙_, subst, subst⁻¹}
 use mathlib.Core.Logic.{_↔_, ⊎-elim}
 use mathlib.Core.Bool.{Bool, true, false, cond, not, _&&_}

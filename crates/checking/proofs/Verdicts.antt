@@ -1,4 +1,4 @@
--- The verdict by the lowest wrong code: right where there is none, else that code is named. Assumes nothing.
+-- The verdict by the lowest wrong code: right where there is none, otherwise that code is named. Assumes nothing.
 use mathlib.Core.Path.{_≡_, ap}
 use mathlib.Core.Bool.{cond}
 use mathlib.Core.List.{List}

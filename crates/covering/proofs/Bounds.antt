@@ -1,6 +1,6 @@
 -- Lower bounds of covers. A lower bound is a valid inequality: `AtLeast cov a A U b` says that the coefficients a of the rows of any cover add up to b or
 -- more. Inequalities add up, are divided and rounded up, and are carried to a larger weight, so a dual solution is a certificate: the numbers of the
--- columns, or of any other valid inequalities, of which no row gets more than its weight. Branching and dominance go by taking a row out of a
+-- columns, or of any other valid inequalities, of which no row gets more than its weight. Branching and dominance work by taking a row out of a
 -- selection. Assumes nothing.
 use mathlib.Core.Path.{_≡_, refl, ap, subst}
 use mathlib.Core.List.{List, [], _∷_, _++_}
@@ -78,7 +78,7 @@ module _ (cov : ℕ → ℕ → Type 0) where
   pub uncoverable : {w : ℕ → ℕ} {A U : ℕ → Type 0} (c k : ℕ) → U c → ((i : ℕ) → A i → cov i c → ⊥) → AtLeast cov w A U k
   uncoverable c k u f = record { bound = λ L l s. let t = hitter L c l (s c u) in absurd (f (t .0) (t .1) (t .2)) }
 
-  -- rows that cover nothing may be left out of account
+  -- rows that cover nothing can be ignored
   module _ (w : ℕ → ℕ) {A A′ : ℕ → Type 0} (either : (i : ℕ) → A i → A′ i ⊎ ((c : ℕ) → cov i c → ⊥)) where
     Trimmed : List ℕ → Type 0
     Trimmed L = (M : List ℕ) × Within A′ M × (weight w M ≤ weight w L) × ((c : ℕ) → Hits cov L c → Hits cov M c)
@@ -171,7 +171,7 @@ module _ (cov : ℕ → ℕ → Type 0) where
         go L s (inr m) =
             omega (arith, m .2, b₁ .bound (m .0) (m .1) (λ c u. ⊎-elim (λ y. absurd (left c u .1 y)) (λ y. y) (m .3 c (s c (left c u .0)))))
 
-    -- Dominance: the row r gives way to a selection of A′ that weighs no more and covers its columns of U. Nothing at all does where it covers none.
+    -- Dominance: the row r gives way to a selection of A′ that weighs no more and covers its columns of U. The empty one will do where r covers none.
     pub dominated : {U : ℕ → Type 0} {k : ℕ} (S : List ℕ) → Within A′ S → weight w S ≤ w r → ((c : ℕ) → U c → cov r c → Hits cov S c)
         → AtLeast cov w A′ U k → AtLeast cov w A U k
     unfolding Without

@@ -1,4 +1,4 @@
--- Branch and bound: what an answer below a limit follows from, also from the two branches of a row, and that the answer of a whole search is a minimum
+-- Branch and bound: what an answer below a limit follows from, the two branches of a row included, and that the answer of a whole search is a minimum
 -- cover. Assumes nothing.
 use mathlib.Core.Path.{_≡_, refl, sym, ap, subst, _∙_}
 use mathlib.Core.List.{[], _∷_}

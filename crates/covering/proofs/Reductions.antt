@@ -1,5 +1,5 @@
--- What the reductions keep: reductions compose, a dominated row and a dominated column are dropped, and the only row for a column is taken. Bounds go by the
--- laws of lower bounds; covers are sets of rows below n, which grow by the rows that are taken. Assumes nothing.
+-- What the reductions keep: reductions compose, a dominated row and a dominated column are dropped, and the only row for a column is taken. Bounds follow from
+-- the laws of lower bounds; covers are sets of rows below n, which grow by the rows that are taken. Assumes nothing.
 use mathlib.Core.Path.{_≡_, refl, sym, ap, subst, _∙_}
 use mathlib.Core.List.{List}
 use mathlib.Core.Logic.{_⊎_, inl, inr, ⊎-elim}

@@ -64,7 +64,7 @@ pub ifSet-mono : (a b : Bool) (x : ℕ) → (a ≡ true → b ≡ true) → ifSe
 ifSet-mono true b x h = omega (arith, ifSet-true x (h refl))
 ifSet-mono false b x h = omega arith
 
--- one number more in a set
+-- one more number in a set
 pub sum-with : (n r : ℕ) (w : ℕ → ℕ) (p q : ℕ → Bool) → r < n → p r ≡ false → ((i : ℕ) → q i ≡ (eqb i r || p i))
     → sum n (λ i. ifSet (q i) (w i)) ≡ w r + sum n (λ i. ifSet (p i) (w i))
 sum-with n r w p q l out e =

@@ -30,7 +30,7 @@ weight w (r ∷ L) = w r + weight w L
 pub record AtLeast (cov : ℕ → ℕ → Type 0) (w : ℕ → ℕ) (A U : ℕ → Type 0) (k : ℕ) : Type 0 where
   pub bound : (L : List ℕ) → Within A L → Covers cov U L → k ≤ weight w L
 
--- a minimum cover: a cover of U by rows of A, of weight k, that no cover of U by rows of A is lighter than
+-- a minimum cover: a cover of U by rows of A, of weight k, and no cover of U by rows of A is lighter
 pub record LeastCover (cov : ℕ → ℕ → Type 0) (w : ℕ → ℕ) (A U : ℕ → Type 0) (L : List ℕ) (k : ℕ) : Type 0 where
   pub within : Within A L
   pub covers : Covers cov U L

@@ -1,4 +1,4 @@
--- What the calls share: the first condition that holds, and conditions behind others; a width, a table and a list that are not refused; what an answer
+-- What the calls share: the first condition that holds, and conditions after others; a width, a table and a list that are not refused; what an answer
 -- tells; and the two ways in which a call that writes a list ends. Assumes nothing.
 use mathlib.Core.Path.{_≡_, refl, sym, ap, _∙_, subst}
 use mathlib.Core.Bool.{Bool, true, false, cond, not, _&&_, _||_, true≢false}
@@ -66,7 +66,7 @@ abbrev pub numbered : List Condition → Bool
 numbered [] = true
 numbered (x ∷ xs) = not (eqb (x .number) 0) && numbered xs
 
--- conditions behind others: those in front refuse first, and where none of them holds it is on those behind
+-- conditions after others: those in front refuse first, and where none of them holds it is up to those after them
 pub conditions-refuse : (xs ys : List Condition) (k : ℕ) → firstOf xs ≡ suc k → firstOf (xs ++ ys) ≡ suc k
 conditions-refuse [] ys k e = absurd (omega arith)
 conditions-refuse (x ∷ xs) ys k e = go (x .holds) e (conditions-refuse xs ys k)
@@ -109,14 +109,14 @@ module _ (n : ℕ) (t : List ℕ) where
         cells = eqb-true (length t) (2 ^ n) (not-false (eqb (length t) (2 ^ n)) (b .0));
       }
 
-  -- the conditions of a call behind those of the table
+  -- the conditions of a call after those of the table
   pub table-passes : (rest : List Condition) → firstOf (tableConditions n t) ≡ 0 → firstOf (tableConditions n t ++ rest) ≡ firstOf rest
   table-passes rest e = conditions-pass (tableConditions n t) rest tt e
 
   pub table-refuses : (rest : List Condition) (k : ℕ) → firstOf (tableConditions n t) ≡ suc k → firstOf (tableConditions n t ++ rest) ≡ suc k
   table-refuses rest k e = conditions-refuse (tableConditions n t) rest k e
 
--- a call on a table that is refused for one condition more, with 4
+-- a call on a table that is refused for one more condition, with 4
 module _ (n : ℕ) (t : List ℕ) (b : Bool) where
   abbrev pub then-four : ℕ
   then-four = firstOf (tableConditions n t ++ (when b 4 ∷ []))
@@ -168,7 +168,7 @@ same-number j k e = cc
 pub same-value : {A : Type 0} (a b : A) → gives a ≡ gives b → a ≡ b
 same-value a b e = cc
 
--- an answer by the refusal's number: values where it is 0, else that number alone
+-- an answer by the refusal's number: values where it is 0, otherwise that number alone
 pub answered-gives : {A : Type 0} (k : ℕ) (a b : A) → gives a ≡ answered k b → (k ≡ 0) × (a ≡ b)
 answered-gives zero a b e = (refl, same-value a b e)
 answered-gives (suc k) a b e = absurd (refuses-gives (suc k) a (sym e))
@@ -183,7 +183,7 @@ answered-refuses j (suc k) b e = (sym (same-number j (suc k) e), λ z. omega ari
 pub listed-number : {A : Type 0} {refusal : ℕ} {list old new : List A} (k : ℕ) → Listed refusal list old new (Refused k) → refusal ≡ k
 listed-number {refusal = refusal} {list = list} k p = answered-refuses k refusal (length list) (p .answer) .0
 
--- where it answers a count, nothing refuses, and the list stands in the first places, as many as the count
+-- where it answers a count, nothing refuses, and the list is in the first places, as many as the count
 module _ {A : Type 0} {refusal : ℕ} {list old new : List A} {k : ℕ} (p : Listed refusal list old new (Count k)) where
   none-refuses : refusal ≡ 0
   none-refuses = answered-gives refusal k (length list) (p .answer) .0

@@ -1,4 +1,4 @@
--- The codes of a cube, ascending, split at its first untested digit: those of the 0 half stand before those of the 1 half, because every code
+-- The codes of a cube, ascending, split at its first untested digit: those of the 0 half come before those of the 1 half, because every code
 -- of the 0 half is below the value of the 1 half, its lowest code. So an implicant splits as its codes do. Assumes nothing.
 use mathlib.Core.Path.{_≡_, refl, sym, ap, ap₂, _∙_, subst, subst⁻¹}
 use mathlib.Core.Logic.{_⊎_, inl, inr, ⊎-elim}

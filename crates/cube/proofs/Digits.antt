@@ -96,7 +96,7 @@ module _ (x b : ℕ) (l : b < 2) where
   pub rest-bits : (x * 2 + b) / 2 ≡ x
   rest-bits = omega arith
 
--- a code with one bit more is below twice the bound
+-- a code with one more bit is below twice the bound
 pub code-more : (n c b : ℕ) → b < 2 → c < 2 ^ n → c * 2 + b < 2 ^ suc n
 code-more n c b l h = subst⁻¹ (λ (m : ℕ). c * 2 + b < m) (pow-suc 2 n) (omega arith)
 
@@ -196,7 +196,7 @@ contained-matches (suc n) q p c s h =
     (fits-e (p % 3) (q % 3) (contained-last n q p s)))
     (contained-matches n (q / 3) (p / 3) (c / 2) (contained-rest n q p s) (matches-rest n q c h))
 
--- p matches all that q matches, with one variable more
+-- p matches all that q matches, with one more variable
 module _ (n q p : ℕ) (f : (c : ℕ) → c < 2 ^ suc n → T (cubeMatches (suc n) q c) → T (cubeMatches (suc n) p c)) where
   one-bit-more : (c b : ℕ) → b < 2 → c < 2 ^ n → T (fits (q % 3) b) → T (cubeMatches n (q / 3) c) → T (fits (p % 3) b && cubeMatches n (p / 3) c)
   one-bit-more c b l m h k =

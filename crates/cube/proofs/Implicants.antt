@@ -134,7 +134,7 @@ pub record PrimeAbove (n : ℕ) (t : List ℕ) (q : ℕ) : Type 0 where
   pub is-prime : T (prime n t cube)
   pub contains : T (contained n q cube)
 
--- Every implicant lies within a prime: it is prime, or a wider implicant is there, and so on; this ends, since the literals grow fewer.
+-- Every implicant lies within a prime: it is prime, or there is a wider implicant, and so on; this ends, since the literals grow fewer.
 climb : (n : ℕ) (t : List ℕ) (fuel q : ℕ) → cubeLiterals n q < fuel → q < 3 ^ n → T (implicant n t q) → PrimeAbove n t q
 unfolding prime
 climb n t zero q f l h = absurd (omega arith)

@@ -1,5 +1,5 @@
 -- A list of rows in two arrays, place by place: row i is place i of each, so that a loop over the places finds what the list's own recursion
--- says; and the first rows of two arrays, with one row more and how many they are. Assumes nothing.
+-- says; and the first rows of two arrays, with one more row, and how many there are. Assumes nothing.
 use mathlib.Core.Path.{_≡_, refl, sym, ap, _∙_}
 use mathlib.Core.Bool.{Bool, false, not, _||_}
 use mathlib.Core.List.{List, [], _∷_, _++_}

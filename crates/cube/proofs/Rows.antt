@@ -1,5 +1,5 @@
 -- Formed rows and cubes correspond one to one, the theorem `OneToOne` of `specs/Theorems.antt`: the cube of a row matches the same codes with as many
--- literals, and the row of a cube is formed and spells that cube. Each law goes bit by bit, from the last variable on. Assumes nothing.
+-- literals, and the row of a cube is formed and spells that cube. Each law is proved bit by bit, from the last variable on. Assumes nothing.
 use mathlib.Core.Path.{_≡_, refl, sym, ap, ap₂, _∙_, subst, subst⁻¹}
 use mathlib.Core.Logic.{⊎-elim}
 use mathlib.Core.Bool.{Bool, true, false, cond, _&&_}
@@ -60,7 +60,7 @@ fits-bit v zero c a b l t = omega arith
 fits-bit v (suc zero) c a b l t = ⊎-elim (λ e. absurd (omega arith)) (λ e. omega arith) (fits-e v c t)
 fits-bit v (suc (suc w)) c a b l t = absurd (omega arith)
 
--- the cube of a row with one variable more
+-- the cube of a row with one more variable
 module _ (n v w : ℕ) where
   rest-cube : ℕ
   rest-cube = cubeOf n (v / 2) (w / 2)

@@ -1,5 +1,5 @@
 -- What the calls of document 01 share: the numbers of refusals with their conditions, an answer, and what is left in a lent place.
--- The greatest width and the most rows of a list stand here once. Assumes nothing.
+-- The greatest width and the most rows of a list are given here once. Assumes nothing.
 use mathlib.Core.Path.{_≡_}
 use Prim.Native.Nat.{ℕ, zero, suc, _^_}
 use mathlib.Core.Bool.{Bool, cond, not, _||_}
@@ -94,7 +94,7 @@ abbrev pub countAnswer : Counted → Answer ℕ
 countAnswer (Count k) = gives k
 countAnswer (Refused k) = refuses k
 
--- What a call that writes a list and answers its length promises of the answer and of the lent places, refused input included.
+-- What a call that writes a list and answers its length promises about the answer and the lent places, refused input included.
 pub record Listed {A : Type 0} (refusal : ℕ) (list old new : List A) (r : Counted) : Type 0 where
   pub answer : countAnswer r ≡ answered refusal (length list)
   pub places : new ≡ written refusal list old

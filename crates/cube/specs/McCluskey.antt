@@ -1,7 +1,7 @@
 -- Document 000 (McCluskey 1956) in its own words: binary characters and how they combine (section 3), the prime implicant table (section 4) and
 -- d-terms (section 10). Then the theorems that its p-terms and d-terms are document 01's wanted and free codes, its prime implicants and single
 -- asterisk rows the primes and essentials, and its basis rows the rows of the shortest lists.
--- A binary character of n positions is a cube number, below 3^n, and digit k stands at the position of weight 2^k.
+-- A binary character of n positions is a cube number, below 3^n, and digit k is at the position of weight 2^k.
 -- `proofs/McCluskey.antt` and `proofs/Basis.antt` prove the theorems. Assumes nothing.
 use mathlib.Core.Path.{_≡_}
 use mathlib.Core.Logic.{_↔_}
@@ -27,8 +27,8 @@ pub record BinaryEquivalent (n c q : ℕ) : Type 0 where
   pub below : q < 3 ^ n
   pub digits : (k : ℕ) → k < n → digit k q ≡ c / 2 ^ k % 2
 
--- section 10: "These d-terms should be included in the list of p-terms which are used to form the prime implicants.": all but the barred codes,
--- and that these are the p-terms with the d-terms is `Terms` below
+-- section 10: "These d-terms should be included in the list of p-terms which are used to form the prime implicants.": all but the barred codes;
+-- `Terms` below says that these are the p-terms with the d-terms
 abbrev pub isTerm : List ℕ → ℕ → Bool
 isTerm t c = not (offSet t c)
 
@@ -71,7 +71,7 @@ pub record PrimeImplicant (n : ℕ) (t : List ℕ) (q : ℕ) : Type 0 where
 
 -- ---- section 4: prime implicant tables
 
--- "Each row of the prime implicant table represents a prime implicant.": that these are the prime implicants is `rows` below
+-- "Each row of the prime implicant table represents a prime implicant.": `rows` below says that these are the prime implicants
 abbrev pub tableRows : ℕ → List ℕ → List ℕ
 tableRows n t = primesOf n t
 

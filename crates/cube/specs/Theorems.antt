@@ -1,4 +1,4 @@
--- What is proved of the words, as statements over any width: the position forms, the one-to-one correspondence of rows and cubes, the cube with
+-- What is proved about the words, as statements over any width: the position forms, the one-to-one correspondence of rows and cubes, the cube with
 -- every digit 2, and what each test of `Words` says as a sentence. Proved, in this order, by `Positions`, `Rows`, `AllTwos` and `Theorems` of
 -- `proofs/`. Assumes nothing.
 use mathlib.Core.Path.{_≡_}

@@ -1,5 +1,5 @@
 -- The words of document 01, "Words and layouts", as definitions that compute. The width n is open: nothing here knows how wide a mark is.
--- Each recursion is on the width and goes by the last variable xn, whose weight is 1: its bit is c % 2 and its digit q % 3, and c / 2 and
+-- Each recursion is on the width and splits off the last variable xn, whose weight is 1: its bit is c % 2 and its digit q % 3, and c / 2 and
 -- q / 3 are the code and the cube of the variables before it. `Theorems` gives the same by positions, x1 first.
 -- `docs/WORDS.md` has the paper's words, the field's terms and these names side by side. Assumes nothing.
 use Prim.Native.Nat.{ℕ, zero, suc, _+_, _*_, _^_, _/_, _%_}

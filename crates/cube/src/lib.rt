@@ -1,4 +1,4 @@
-// The words of document 01 stand in specs/, their laws in proofs/. The one piece of code, which every layer shares, is the
+// The words of document 01 are in specs/, their laws in proofs/. The one piece of code, which every layer shares, is the
 // answer of the calls that count: Cells, Primes, Chart, Essentials and Write.
 //
 //     match cells::cells(4, 53, &mut codes) {

@@ -17,7 +17,7 @@ fn cell_of(character: u8) -> u8 {
     }
 }
 
-// The cells of a table written as a run of 0, 1 and -. Returns how many they are.
+// The cells of a table written as a run of 0, 1 and -. Returns how many there are.
 fn read_cells(text: &[u8], cells: &mut [u8]) -> usize
     requires { ⌜ length (now text) ≤ length (now cells) ⌝ }
     ensures { λ r. ⌜ Counts r (now (cells .exit)) ⌝ }

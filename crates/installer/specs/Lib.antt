@@ -1,3 +1,3 @@
--- The numbers that C gets, and what their proofs need besides.
+-- The numbers that C gets, and what else their proofs need.
 pub mod Numbers
 pub mod Steps

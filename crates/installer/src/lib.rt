@@ -63,7 +63,7 @@ fn check_number(answer: Checked) -> i32
     }
 }
 
-// Spell for C: 0, with value and care of the cube in the two lent bytes, or minus the number of the refusal.
+// Spell for C: 0, with the value and the care of the cube in the two lent bytes, or minus the number of the refusal.
 #[no_mangle]
 pub extern "C" fn rows_spell(n: usize, cube: usize, value: &mut u8, care: &mut u8) -> i32
     ensures { λ r. ⌜ SpellsForC (spellOf n cube) (now (value .entry)) (now (care .entry)) (now (value .exit)) (now (care .exit)) r ⌝ }
@@ -78,7 +78,7 @@ pub extern "C" fn rows_spell(n: usize, cube: usize, value: &mut u8, care: &mut u
     }
 }
 
-// Cells for C: how many codes the cube matches, which stand in the first bytes, or minus the number of the refusal.
+// Cells for C: how many codes the cube matches, or minus the number of the refusal; the codes go into the first bytes.
 #[no_mangle]
 pub extern "C" fn rows_cells(n: usize, cube: usize, codes: &mut [u8]) -> i32
     ensures { λ r. ⌜ ListedForC (cellsRefuses n cube (length (now (codes .entry)))) (codesOf n cube) (now (codes .entry)) (now (codes .exit)) r ⌝ }
@@ -86,7 +86,7 @@ pub extern "C" fn rows_cells(n: usize, cube: usize, codes: &mut [u8]) -> i32
     count_number(cells::cells(n, cube, codes))
 }
 
-// Primes for C: how many primes there are, which stand in the first places, or minus the number of the refusal.
+// Primes for C: how many primes there are, or minus the number of the refusal; the primes go into the first places.
 #[no_mangle]
 pub extern "C" fn rows_primes(n: usize, table: &[u8], cubes: &mut [u16]) -> i32
     ensures { λ r. ⌜ ListedForC (primesRefuses n (now (table .entry)) (length (now (cubes .entry)))) (primesOf n (now (table .entry)))
@@ -95,7 +95,7 @@ pub extern "C" fn rows_primes(n: usize, table: &[u8], cubes: &mut [u16]) -> i32
     count_number(primes::primes(n, table, cubes))
 }
 
-// Chart for C: how many chart rows there are, which stand in the first of the lent rows, or minus the number of the refusal.
+// Chart for C: how many chart rows there are, or minus the number of the refusal; they go into the first of the lent rows.
 #[no_mangle]
 pub extern "C" fn rows_chart(n: usize, table: &[u8], rows: &mut [ChartRow]) -> i32
     ensures { λ r. ⌜ ListedForC (primesRefuses n (now (table .entry)) (length (now (rows .entry)))) (chartOf n (now (table .entry)))
@@ -104,7 +104,7 @@ pub extern "C" fn rows_chart(n: usize, table: &[u8], rows: &mut [ChartRow]) -> i
     count_number(chart::chart(n, table, rows))
 }
 
-// Essentials for C: how many essential primes there are, which stand in the first places, or minus the number of the refusal.
+// Essentials for C: how many essential primes there are, or minus the number of the refusal; they go into the first places.
 #[no_mangle]
 pub extern "C" fn rows_essentials(n: usize, table: &[u8], cubes: &mut [u16]) -> i32
     ensures { λ r. ⌜ ListedForC (primesRefuses n (now (table .entry)) (length (now (cubes .entry)))) (essentialsOf n (now (table .entry)))
@@ -129,7 +129,7 @@ pub extern "C" fn rows_check(n: usize, table: &[u8], values: &[u8], cares: &[u8]
     check_number(checking::check(n, table, values, cares))
 }
 
-// Write for C: the length of the list file, which stands in the first bytes, or minus the number of the refusal.
+// Write for C: the length of the list file, or minus the number of the refusal; the file goes into the first bytes.
 #[no_mangle]
 pub extern "C" fn rows_write(n: usize, values: &[u8], cares: &[u8], file: &mut [u8]) -> i32
     ensures { λ r. ⌜ ListedForC (writeRefuses n (now (values .entry)) (now (cares .entry)) (length (now (file .entry))))

@@ -5,7 +5,7 @@ use Prim.Native.Nat.{ℕ, _+_, _<_}
 use lib.ListN.{length, getD}
 use Rattle.listfile.specs.Write.{headerLength, fileOf, fileLength}
 
--- what stands at each byte of the file
+-- what each byte of the file holds
 pub record Layout (n : ℕ) (vs ws : List ℕ) (equal : length vs ≡ length ws) : Type 0 where
   -- "Byte 0 width"
   pub width : getD (fileOf n vs ws) 0 0 ≡ n

@@ -31,7 +31,7 @@ fn put_header(n: u8, rows: u8, out: &mut [u8])
     out[1] = rows;
 }
 
-// Writes the file: the values into a middle part of the buffer, the cares into the part right behind them.
+// Writes the file: the values into a middle part of the buffer, the cares into the part right after them.
 fn put_file(n: usize, values: &[u8], cares: &[u8], out: &mut [u8])
     requires { ⌜ Writable n (now values) (now cares) (now out) ⌝ }
     ensures { λ _. ⌜ now (out .exit) ≡ sets (now (out .entry)) 0 (fileOf n (now (values .entry)) (now (cares .entry))) ⌝ }
@@ -44,7 +44,7 @@ fn put_file(n: usize, values: &[u8], cares: &[u8], out: &mut [u8])
     bytes::copy(cares, &mut out[behind..end]);
 }
 
-// The list file of a list into the first bytes of a buffer: its length, or the number of the refusal.
+// Writes the list file of a list into the first bytes of a buffer. Answers its length, or the number of the refusal.
 pub fn write(n: usize, values: &[u8], cares: &[u8], out: &mut [u8]) -> Counted
     ensures { λ r. ⌜ Listed (writeRefuses n (now (values .entry)) (now (cares .entry)) (length (now (out .entry))))
         (fileOf n (now (values .entry)) (now (cares .entry))) (now (out .entry)) (now (out .exit)) r ⌝ }

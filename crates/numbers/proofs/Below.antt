@@ -1,5 +1,5 @@
 -- The laws of the numbers below a bound: every, some, those, the lowest of those and run, each by induction on the bound. Of those that pass: how many
--- they are and how many pass another test, that their list holds each of them once, and what stands at its places, ascending. Assumes nothing.
+-- there are and how many pass another test, that their list holds each of them once, and what is at its places, ascending. Assumes nothing.
 use mathlib.Core.Path.{_≡_, refl, sym, ap, ap₂, _∙_, subst, subst⁻¹}
 use mathlib.Core.Logic.{_⊎_, inl, inr, ⊎-elim}
 use mathlib.Core.Bool.{Bool, true, false, cond, not, _&&_, _||_}
@@ -62,7 +62,7 @@ unfolding some
 some-same zero f g e = refl
 some-same (suc m) f g e = ap₂ _||_ (e m (lt-suc-self m)) (some-same m f g (λ k l. e k (omega arith)))
 
--- the number 0 first, and the others one on
+-- the number 0 first, and the others shifted by one
 pub some-front : (m : ℕ) (f : ℕ → Bool) → some (suc m) f ≡ (f 0 || some m (λ k. f (suc k)))
 unfolding some
 some-front zero f = refl
@@ -291,14 +291,14 @@ passing f zero = record { at = λ i l. absurd (not-suc-le-zero l); ascends = λ 
 passing f (suc m) = passing-more f m (those m f) (passing f m) (f m) refl
 
 module _ (f : ℕ → Bool) where
-  -- what stands at a place passes
+  -- what is at a place passes
   pub those-at : (m i : ℕ) → i < length (those m f) → (getD (those m f) i 0 < m) × T (f (getD (those m f) i 0))
   those-at m = passing f m .at
 
   pub those-ascend : (m i j : ℕ) → i < j → j < length (those m f) → getD (those m f) i 0 < getD (those m f) j 0
   those-ascend m = passing f m .ascends
 
-  -- one that passes stands at a place
+  -- one that passes is at some place
   pub those-place : (m q : ℕ) → q < m → T (f q) → (i : ℕ) × (i < length (those m f)) × (getD (those m f) i 0 ≡ q)
   unfolding those
   those-place zero q l h = absurd (not-suc-le-zero l)
@@ -335,7 +335,7 @@ unfolding tabulate
 tabulate-length f zero i = refl
 tabulate-length f (suc m) i = ap suc (tabulate-length f m (suc i))
 
--- one value more
+-- one more value
 pub tabulate-more : (f : ℕ → ℕ) (m i : ℕ) → tabulate (suc m) i f ≡ tabulate m i f ++ (f (i + m) ∷ [])
 unfolding tabulate
 tabulate-more f zero i = ap (λ (k : ℕ). f k ∷ []) (sym (add-zero i))

@@ -17,13 +17,13 @@ use Rattle.numbers.specs.Lent.{Puts}
 use Rattle.numbers.proofs.Below.{those-length}
 use Rattle.numbers.proofs.Fronts.{take-more}
 
--- a run of stores and the run right behind it
+-- a run of stores and the run right after it
 pub sets-append : (l : List ℕ) (i : ℕ) (xs ys : List ℕ) → sets (sets l i xs) (i + length xs) ys ≡ sets l i (xs ++ ys)
 sets-append l i [] ys = ap (λ (k : ℕ). sets l k ys) (add-zero i)
 sets-append l i (x ∷ xs) ys =
     ap (λ (k : ℕ). sets (sets (set l i x) (suc i) xs) k ys) (add-suc i (length xs) ∙ sym (suc-add i (length xs))) ∙ sets-append (set l i x) (suc i) xs ys
 
--- a run of stores from the front: the list stands there, and behind it what stood there before
+-- a run of stores from the front: the list is there, and after it what was there before
 pub sets-front : (xs old : List ℕ) → length xs ≤ length old → sets old 0 xs ≡ xs ++ drop (length xs) old
 sets-front xs old h = sets-eq xs old 0 (omega arith) ∙ ap (λ (i : ℕ). xs ++ drop i old) (zero-add (length xs))
 
@@ -49,7 +49,7 @@ put-copied a e xs src part s h d =
 pub puts-none : (old : List ℕ) (at : ℕ) → Puts [] old at old at
 puts-none old at = record { behind = sym (add-zero at); places = refl }
 
--- one list right behind another
+-- one list right after another
 pub puts-append : {xs ys old mid new : List ℕ} {at middle next : ℕ} → Puts xs old at mid middle → Puts ys mid middle new next → Puts (xs ++ ys) old at new next
 puts-append {xs} {ys} {old} {at = at} p q = record {
   behind = omega (arith, p .behind, q .behind, length-append xs ys);
@@ -68,14 +68,14 @@ puts-long {xs} {old} {at = at} p = ap length (p .places) ∙ length-sets old at 
 pub puts-same : {xs ys old new : List ℕ} {at next : ℕ} → xs ≡ ys → Puts xs old at new next → Puts ys old at new next
 puts-same {old = old} {new} {at} {next} e p = subst (λ (l : List ℕ). Puts l old at new next) e p
 
--- from the front: how many there are, and what stands behind them
+-- from the front: how many there are, and what comes after them
 pub front-count : {xs old new : List ℕ} {next : ℕ} → Puts xs old 0 new next → next ≡ length xs
 front-count {xs} p = p .behind ∙ zero-add (length xs)
 
 pub front-places : {xs old new : List ℕ} {next : ℕ} → Puts xs old 0 new next → length xs ≤ length old → new ≡ xs ++ drop (length xs) old
 front-places {xs} {old} p l = p .places ∙ sets-front xs old l
 
--- the values of the first elements of a list, with one element more
+-- the values of the first elements of a list, with one more element
 pub map-more : (f : ℕ → ℕ) (qs old : List ℕ) {new : List ℕ} (i x : ℕ) → i < length qs → Puts (map f (take i qs)) old 0 new i → x ≡ f (getD qs i 0)
     → Puts (map f (take (i + 1) qs)) old 0 (set new i x) (i + 1)
 map-more f qs old {new} i x l p v =

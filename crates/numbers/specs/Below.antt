@@ -1,5 +1,5 @@
--- The numbers below a bound: whether every one of them passes a test, whether some one does, which of them do, and a function's values over them;
--- and of a list of numbers, how many pass, whether a number stands in it, and that it holds some numbers once each and no others. `proofs/Below.antt`
+-- The numbers below a bound: whether every one of them passes a test, whether one of them does, which of them do, and a function's values over them;
+-- and of a list of numbers, how many pass, whether a number is in it, and that it holds some numbers once each and no others. `proofs/Below.antt`
 -- has the laws. Assumes nothing.
 use mathlib.Core.Path.{_≡_}
 use Prim.Native.Nat.{ℕ, zero, suc, _+_}
@@ -32,7 +32,7 @@ unfoldable pub count : (ℕ → Bool) → List ℕ → ℕ
 count f [] = 0
 count f (x ∷ xs) = flag (f x) + count f xs
 
--- the number stands in the list
+-- the number is in the list
 unfoldable pub among : ℕ → List ℕ → Bool
 among x [] = false
 among x (y ∷ ys) = eqb x y || among x ys

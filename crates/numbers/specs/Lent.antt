@@ -5,7 +5,7 @@ use Prim.Native.Nat.{ℕ, _+_}
 use lib.ListN.{length}
 use lib.Seq.{sets}
 
--- the list stands in the lent places from place `at` on, all other places are as they were, and `next` is the place behind it
+-- the list is in the lent places from place `at` on, all other places are as they were, and `next` is the place after it
 pub record Puts {A : Type 0} (list old : List A) (at : ℕ) (new : List A) (next : ℕ) : Type 0 where
   pub behind : next ≡ at + length list
   pub places : new ≡ sets old at list

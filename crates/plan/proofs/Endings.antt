@@ -60,7 +60,7 @@ module _ (n : ℕ) (t values cares : List ℕ) where
       places : Plannable n t (length values) (length cares)
       places = plannable n t (length values) (length cares) none
 
-      -- an array afterwards: the list's numbers from the first place on, and behind them what was
+      -- an array afterwards: the list's numbers from the first place on, and after them what was there
       spelled : (f : ℕ → ℕ) (old new : List ℕ) → 2 ^ n ≤ length old → Puts (map f qs) old 0 new count → new ≡ written refusal (map f qs) old
       spelled f old new l p = front-places p (omega (arith, count-most, front-count p)) ∙ ap (λ (i : ℕ). written i (map f qs) old) (sym none)
 

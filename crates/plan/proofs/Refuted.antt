@@ -1,4 +1,4 @@
--- What Plan's promise leaves open of the counts: nothing. On each of the cases a to j the answer is the case's rows and bits, whatever the arrays held,
+-- Plan's promise leaves nothing open about the counts. On each of the cases a to j the answer is the case's rows and bits, whatever the arrays held,
 -- and so wrong answers are shut out, each on a named case. Then wrong arrays and wrong refusals. Assumes nothing.
 use mathlib.Core.Path.{_≡_, refl, sym, ap, ap₂, _∙_}
 use mathlib.Core.List.{List, [], _∷_}
@@ -31,7 +31,7 @@ answer-on k h values cares values′ cares′ r e p =
     p .answer ∙ ap (λ (i : ℕ). answered i (totalsOf (k .width) (p .list))) e
     ∙ ap₂ (λ (x y : ℕ). gives (record { rows = x; bits = y })) (same .0 ∙ h .rows) (same .1 ∙ h .bits)
 
--- ---- wrong answers on named cases, for any arrays with places enough
+-- ---- wrong answers on named cases, for any arrays with enough places
 
 module _ (k : Case) (h : Holds k) (values cares values′ cares′ : List ℕ) (e : planRefuses (k .width) (tableOf k) (length values) (length cares) ≡ 0) where
   counts : (rows bits : ℕ) → Plans (k .width) (tableOf k) values cares values′ cares′ (Rows rows bits) → record { rows = rows; bits = bits } ≡ countsOf k
@@ -99,7 +99,7 @@ four-with-64-places values cares values′ cares′ v w p =
 
 -- ---- wrong arrays
 
--- the two rows of h, 10-0 and -00-, in descending order, whatever stands behind them
+-- the two rows of h, 10-0 and -00-, in descending order, whatever comes after them
 pub descending : (values cares values′ cares′ : List ℕ) (r : Planned) → planRefuses 4 (tableOf case-h) (length values) (length cares) ≡ 0
     → Plans 4 (tableOf case-h) values cares (0 ∷ 8 ∷ values′) (6 ∷ 11 ∷ cares′) r → ⊥
 unfolding tabulate among tableOf every rowsOf rowMatches coverMatches implements cubeOf ascendsFrom

@@ -54,7 +54,7 @@ caresOf list = map (λ r. r .care) list
 pub record Plans (n : ℕ) (t values cares values′ cares′ : List ℕ) (r : Planned) : Type 0 where
   -- left open: which of several equally good lists is written
   pub list : Cover
-  -- "For every accepted table": a list of the table's width, right for the table, that no such list is better than
+  -- "For every accepted table": a list of the table's width, right for the table, and no such list is better
   pub minimum : planRefuses n t (length values) (length cares) ≡ 0 → Minimum n t list
   pub is-ascending : planRefuses n t (length values) (length cares) ≡ 0 → T (ascending (map (numberOf n) list))
   -- "Both counts returned are those of the list written"; on refusal the number alone

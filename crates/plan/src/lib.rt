@@ -17,7 +17,7 @@ ghost use Rattle.cube.specs.Calls.{widest};
 ghost use Rattle.plan.specs.Plan.{planRefuses, Plans};
 ghost use Rattle.plan.specs.Steps.{rowWeight, Lightest, Chosen, Pickable, pickedCubes, Spellable, SpelledInto};
 
-// What a row weighs, its tested bits apart.
+// What a row weighs, not counting its tested bits.
 const ROW_WEIGHT: usize = 10000;
 
 // The number of rows and the sum of their tested bits, or the number of the refusal.
@@ -33,7 +33,7 @@ pub struct CubeList {
     pub cubes: [u16; MOST_CODES],
 }
 
-// The weights of the first rows by their tested bits.
+// Fills in the weights of the first rows by their tested bits.
 fn fill_weights(literals: &[u8], count: usize, weights: &mut [u32])
     requires { ⌜ (count ≤ length (now literals)) × (count ≤ length (now weights)) ⌝ }
     ensures { λ _. ⌜ ((i : ℕ) → i < count → getD (now (weights .exit)) i 0 ≡ rowWeight + getD (now (literals .entry)) i 0) ⌝ }
@@ -45,7 +45,7 @@ fn fill_weights(literals: &[u8], count: usize, weights: &mut [u32])
     }
 }
 
-// The cubes of the picked rows, ascending; how many there are.
+// Lists the cubes of the picked rows, ascending, and returns how many there are.
 fn list_picked(picked: &rows::Set, cubes: &[u16], rows: usize, list: &mut [u16]) -> usize
     requires { ⌜ Pickable (now picked) (now cubes) rows (now list) ⌝ }
     ensures { λ r. ⌜ Puts (pickedCubes (now (picked .entry)) (now (cubes .entry)) rows) (now (list .entry)) 0 (now (list .exit)) r ⌝ }
@@ -62,7 +62,7 @@ fn list_picked(picked: &rows::Set, cubes: &[u16], rows: usize, list: &mut [u16])
     count
 }
 
-// The values and the cares of the first cubes, from the first place on.
+// Writes the values and the cares of the first cubes, from the first place on.
 fn write_rows(n: usize, cubes: &[u16], count: usize, values: &mut [u8], cares: &mut [u8])
     requires { ⌜ Spellable n (now cubes) count (now values) (now cares) ⌝ }
     ensures { λ _. ⌜ SpelledInto n (now (cubes .entry)) count (now (values .entry)) (now (cares .entry)) (now (values .exit)) (now (cares .exit)) ⌝ }
@@ -130,7 +130,7 @@ fn plan_refusal(n: usize, table: &[u8], values: usize, cares: usize) -> u8
     0
 }
 
-// A shortest list for a table into the first places of both arrays, ascending by cube number: its counts, or the number of the refusal.
+// Writes a shortest list for a table into the first places of both arrays, ascending by cube number. Answers its counts, or the number of the refusal.
 pub fn plan(n: usize, table: &[u8], values: &mut [u8], cares: &mut [u8]) -> Planned
     ensures { λ r. ⌜ Plans n (now (table .entry)) (now (values .entry)) (now (cares .entry)) (now (values .exit)) (now (cares .exit)) r ⌝ }
 {

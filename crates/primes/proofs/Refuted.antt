@@ -30,7 +30,7 @@ descending r p = let z : _≡_ {A = ℕ} 4 0 = ap (λ (l : List ℕ). getD l 0 0
 pub written-on-refusal : (r : Counted) → Listed (primesRefuses 0 case-d 1) (primesOf 0 case-d) (7 ∷ []) (0 ∷ []) r → ⊥
 written-on-refusal r p = let z : _≡_ {A = ℕ} 0 7 = ap (λ (l : List ℕ). getD l 0 0) (p .places) in omega arith
 
--- ---- wrong refusals: the earlier condition wins. The three calls that list cubes, Primes, Essentials and Chart, refuse alike, so `list` is any list.
+-- ---- wrong refusals: the earlier condition wins. The three calls that list cubes, Primes, Essentials and Chart, refuse the same way, so `list` is any list.
 
 module _ {A : Type 0} (list old new : List A) where
   -- 4 for any number of places, where a cell is 3

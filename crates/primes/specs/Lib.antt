@@ -1,4 +1,4 @@
--- What Primes refuses, what its steps leave, and what its promise says of McCluskey's prime implicants.
+-- What Primes refuses, what its steps leave, and what its promise says about McCluskey's prime implicants.
 pub mod Primes
 pub mod Steps
 pub mod Theorems

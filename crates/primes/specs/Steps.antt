@@ -15,7 +15,7 @@ pub record Flagged (n : ℕ) (t flags : List ℕ) : Type 0 where
   pub cells : length t ≡ 2 ^ n
   pub enough : 3 ^ n ≤ length flags
 
--- the marks of the numbers below m are 1 for one that passes and 0 for another
+-- the marks of the numbers below m are 1 for those that pass and 0 for the others
 abbrev pub Marks : (ℕ → Bool) → List ℕ → ℕ → Type 0
 Marks f marks m = (q : ℕ) → q < m → getD marks q 0 ≡ flag (f q)
 

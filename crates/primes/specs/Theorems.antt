@@ -25,7 +25,7 @@ pub record Reported (P : ℕ → Type 0) (old new : List ℕ) (r : Counted) : Ty
   pub answer : r ≡ Count count
   pub report : Report P old new count
 
--- what follows for a call that lists cubes, from what it promises of a refusal and of a list
+-- what follows for a call that lists cubes, from what it promises about a refusal and about a list
 pub record Reports (P : ℕ → Type 0) (refusal : ℕ) (list old new : List ℕ) : Type 0 where
   -- where a count is returned, the places hold the report
   pub counted : (k : ℕ) → Listed refusal list old new (Count k) → Report P old new k

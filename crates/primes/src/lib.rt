@@ -84,7 +84,7 @@ fn mark_maximal(n: usize, flags: &[u8], marks: &mut [u8])
     }
 }
 
-// Marks the primes of a table of n variables: 1 for a prime, 0 for another cube. Marks past those of the cubes are left.
+// Marks the primes of a table of n variables: 1 for a prime, 0 for any other cube. Marks past those of the cubes are left alone.
 pub fn mark_primes(n: usize, table: &[u8], marks: &mut [u8])
     requires { ⌜ Flagged n (now table) (now marks) ⌝ }
     ensures { λ _. ⌜ MarksBelow (3 ^ n) (prime n (now (table .entry))) (now (marks .entry)) (now (marks .exit)) ⌝ }
@@ -143,7 +143,7 @@ pub fn listing_refusal(n: usize, table: &[u8], places: usize) -> u8
     0
 }
 
-// All primes of a table into the first places, ascending by cube number: how many there are, or the number of the refusal.
+// Writes all primes of a table into the first places, ascending by cube number. Answers how many there are, or the number of the refusal.
 pub fn primes(n: usize, table: &[u8], out: &mut [u16]) -> Counted
     ensures { λ r. ⌜ Listed (primesRefuses n (now (table .entry)) (length (now (out .entry)))) (primesOf n (now (table .entry)))
         (now (out .entry)) (now (out .exit)) r ⌝ }

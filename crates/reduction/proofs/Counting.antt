@@ -1,4 +1,4 @@
--- Columns with one row: a column that is not among those seen twice has one live row at most. Assumes nothing.
+-- Columns with one row: a column that is not among those seen twice has at most one live row. Assumes nothing.
 use mathlib.Core.Path.{_≡_, refl}
 use mathlib.Core.List.{List}
 use mathlib.Core.Bool.{false, _&&_, _||_}

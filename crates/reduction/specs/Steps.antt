@@ -57,7 +57,7 @@ pub record Takeable (words weights : List ℕ) (s : Remaining) (r : ℕ) : Type 
   pub lives : Member (s .live) r
   pub room : CostBounded s
 
--- the row r is taken: it is live no more, its columns are decided, and its weight is counted
+-- the row r is taken: it is no longer live, its columns are decided, and its weight is counted
 pub record RowTaken (words weights : List ℕ) (s : Remaining) (r : ℕ) (t : Remaining) : Type 0 where
   pub live : (j : ℕ) → member (t .live) j ≡ (member (s .live) j && not (eqb j r))
   pub undecided : (x : ℕ) → has (t .undecided) x ≡ (has (s .undecided) x && not (has (covered words r) x))
@@ -65,7 +65,7 @@ pub record RowTaken (words weights : List ℕ) (s : Remaining) (r : ℕ) (t : Re
   pub cost : t .cost ≡ s .cost + weightOf weights r
   pub room : CostBounded t
 
--- the column c has one live row at most, and there is room for its weight
+-- the column c has at most one live row, and there is room for its weight
 pub record Single (words weights : List ℕ) (s : Remaining) (c : ℕ) : Type 0 where
   pub sizes : Sizes words weights
   pub column : c < columnLimit

@@ -44,7 +44,7 @@ fn row_for(words: &[u64], live: &rows::Set, c: usize) -> usize
     end
 }
 
-// What is left once the live row r is taken: it is live no more, its columns are decided, and its weight is counted.
+// What is left once the live row r is taken: it is no longer live, its columns are decided, and its weight is counted.
 pub fn take_row(words: &[u64], weights: &[u32], state: Remaining, r: usize) -> Remaining
     requires { ⌜ Takeable (now words) (now weights) state r ⌝ }
     ensures { λ t. ⌜ RowTaken (now (words .entry)) (now (weights .entry)) state r t ⌝ }

@@ -1,4 +1,4 @@
-// Row dominance: a row is dropped for another that covers all its undecided columns and weighs no more. Of equals one remains, and a row that covers no
+// Row dominance: a row is dropped for another that covers all its undecided columns and weighs no more. Of equal rows one stays, and a row that covers no
 // undecided column is dropped outright.
 ghost use mathlib.Core.Path.{_≡_};
 ghost use mathlib.Core.Bool.{true};

@@ -32,7 +32,7 @@ module _ (s : State) (piece : List ℕ) where
   came (pos (suc k)) e n m = let all : min (suc k) (length piece) ≡ suc k = omega arith in (ap (λ (j : ℕ). fed s (take j piece)) all, refl)
   came (negsuc k) e n m = let z : _≡_ {A = ℕ} 0 1 = cc in absurd (omega arith)
 
-  -- ---- the same of the bits of an answer
+  -- ---- the same for the bits of an answer
 
   module _ (z : ℤ) (f : SFits w64 z) where
     pub bits-failed : ltZ (toZ w64 (ofZ w64 z)) (pos 0) ≡ true → (wrong ≡ afterRead s z piece) × (true ≡ endsInput z)

@@ -1,4 +1,4 @@
--- Piece by piece: where a state is that behind the pieces so far, one turn more leads to the state behind these and the next. Assumes nothing.
+-- Piece by piece: where a state is the one after the pieces so far, one more turn leads to the state after these and the next. Assumes nothing.
 use mathlib.Core.Path.{_≡_, refl, sym, ap, subst, _∙_}
 use mathlib.Core.List.{List, [], _∷_, _++_}
 use Prim.Native.Nat.{ℕ, _≤_}

@@ -1,5 +1,5 @@
 -- The parts of branch and bound on slices: where the search branches, what the answer of `reduce` follows from at each of its returns, what the two
--- branches of `choose` give, that the lighter of an incumbent and of the answer below it is the answer, and that the answer of the whole search is a
+-- branches of `choose` give, that the lighter of an incumbent and the answer below it is the answer, and that the answer of the whole search is a
 -- minimum cover. Each is the law of covers for these sets. Assumes nothing.
 use mathlib.Core.Path.{_≡_, sym, _∙_}
 use mathlib.Core.List.{List}
@@ -65,7 +65,7 @@ module _ (words weights : List ℕ) where
           rw (t .weight) (answer-reduced (covers words) (weightOf weights) rowLimit {room = limit - s .cost} (h .reduced) (omega arith) (t .picked)
           (answer-fewer (covers words) (weightOf weights) rowLimit (b .kept .fewer) (b .kept .low) x))
 
-  -- ---- the lighter of an incumbent and of the answer below it
+  -- ---- the lighter of an incumbent and the answer below it
 
   pub found-lighter : (live : RowSet) (u : ColumnSet) (limit : ℕ) (incumbent found a : Solution) → Incumbent words weights live u limit (incumbent .weight) (incumbent .picked)
       → Found words weights live u (incumbent .weight) (found .weight) (found .picked) → Lighter incumbent found a → Found words weights live u limit (a .weight) (a .picked)
@@ -94,7 +94,7 @@ module _ (words weights : List ℕ) where
           (λ c x. kept-or (has u c) (has (covered words r) c) (d c) x) (f .cover (omega arith)));
     }
 
-    -- the lighter of that and of the answer without the row
+    -- the lighter of that and the answer without the row
     pub found-branches : (other b : Solution) → Found words weights rest u (a .weight) (other .weight) (other .picked) → Lighter a other b
         → Found words weights live u limit (b .weight) (b .picked)
     found-branches other b x =

@@ -17,7 +17,7 @@ use Rattle.search.specs.declared.BranchPoint.{BranchPoint}
 
 -- ---- numbers
 
--- all rows together weigh less than this number: the weight where the greedy cover is none
+-- all rows together weigh less than this number: the weight where no greedy cover is found
 abbrev pub noCover : ℕ
 noCover = 2 ^ 42
 
@@ -50,7 +50,7 @@ pub record RowFor (words : List ℕ) (live : RowSet) (c r : ℕ) : Type 0 where
   pub here : r < rowCount words → Member live r × covers words r c
   pub nowhere : r ≡ rowCount words → (i : ℕ) → Member live i → covers words i c → ⊥
 
--- one row more looked at: r is the row i, which covers c, or it is the best so far, which is a row if i covers c
+-- one more row looked at: r is the row i, which covers c, or it is the best so far, which is a row if i covers c
 abbrev pub Preferred : List ℕ → ℕ → ℕ → ℕ → ℕ → Type 0
 Preferred words c i best r = ((r ≡ i) × covers words i c) ⊎ ((r ≡ best) × (covers words i c → best < rowCount words))
 
@@ -80,7 +80,7 @@ pub record WithTaken (rest : Remaining) (found a : Solution) : Type 0 where
   pub weight : a .weight ≡ rest .cost + found .weight
   pub picked : (j : ℕ) → member (a .picked) j ≡ (member (rest .taken) j || member (found .picked) j)
 
--- the lighter of an incumbent and of the answer of a search below it
+-- the lighter of an incumbent and the answer of a search below it
 pub record Lighter (incumbent found a : Solution) : Type 0 where
   pub weight : a .weight ≡ min (incumbent .weight) (found .weight)
   pub improved : found .weight < incumbent .weight → a .picked ≡ found .picked

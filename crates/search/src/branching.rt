@@ -16,7 +16,7 @@ type Counts = [u32; columns::LIMIT];
 // The columns that the rows of each column cover.
 type Neighbours = [columns::Set; columns::LIMIT];
 
-// A row with the columns of a set, noted at each of them: one row more, and the columns that it brings.
+// A row with the columns of a set, noted at each of them: one more row, and the columns that it brings.
 fn note(counts: &mut Counts, near: &mut Neighbours, set: columns::Set) {
     let mut c = columns::next(set, 0);
     while c < columns::LIMIT {
@@ -55,14 +55,14 @@ pub fn times(n: u32, weight: u64) -> u64
     n as u64 * weight
 }
 
-// Whether a columns for m rows are more in proportion than b for n, with one row added to each.
+// Whether a / (m + 1) is above b / (n + 1): a columns for m rows against b for n, with one row added to each.
 fn denser(a: u32, m: u32, b: u32, n: u32) -> bool
     requires { ⌜ (a ≤ columnLimit) × (b ≤ columnLimit) ⌝ }
 {
     times(b, m as u64 + 1) < times(a, n as u64 + 1)
 }
 
-// The column c, if its rows bring more columns in proportion, else the best so far.
+// The column c if its rows bring more columns in proportion, otherwise the best so far.
 fn prefer_column(counts: &Counts, near: &Neighbours, c: usize, best: usize) -> usize
     requires { ⌜ (c < columnLimit) × (best < columnLimit) ⌝ }
     ensures { λ r. ⌜ (r ≡ c) ⊎ (r ≡ best) ⌝ }
@@ -108,7 +108,7 @@ fn covers_more(words: &[u64], weights: &[u32], undecided: columns::Set, i: usize
     n < m
 }
 
-// The row i, if it covers the column c and covers more than the best so far, else that one.
+// The row i if it covers the column c and covers more than the best so far, otherwise the latter.
 fn prefer_row(
     words: &[u64],
     weights: &[u32],

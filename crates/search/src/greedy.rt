@@ -27,7 +27,7 @@ fn cheaper(words: &[u64], weights: &[u32], undecided: columns::Set, i: usize, j:
         < branching::times(m, matrix::weight(weights, j))
 }
 
-// The row i, if it is cheaper, else the best so far.
+// The row i if it is cheaper, otherwise the best so far.
 fn prefer(words: &[u64], weights: &[u32], undecided: columns::Set, i: usize, best: usize) -> usize
     requires { ⌜ Sizes (now words) (now weights) × (i < rowCount (now words)) ⌝ }
     ensures { λ r. ⌜ (r ≡ i) ⊎ (r ≡ best) ⌝ }

@@ -53,7 +53,7 @@ fn taking(found: Solution, r: usize, w: u64, limit: u64) -> Solution
     }
 }
 
-// The rows that a reduction took, with the answer for what it left: one node more, and one call deeper.
+// The rows that a reduction took, with the answer for what it left: one more node, and one call deeper.
 fn with_taken(rest: Remaining, found: Solution) -> Solution
     requires { ⌜ (rest .cost < costLimit) × (found .weight < costLimit) ⌝ }
     ensures { λ a. ⌜ WithTaken rest found a ⌝ }
@@ -68,7 +68,7 @@ fn with_taken(rest: Remaining, found: Solution) -> Solution
     }
 }
 
-// The lighter of an incumbent and of the answer of a search below it, with what both took.
+// The lighter of an incumbent and the answer of a search below it, with what both took.
 fn lighter(incumbent: Solution, found: Solution) -> Solution
     ensures { λ a. ⌜ Lighter incumbent found a ⌝ }
 {
@@ -163,7 +163,7 @@ fn reduce(
     with_taken(rest, found)
 }
 
-// The same by the two branches of a live row r: the lightest cover with it, and one without it if that is lighter still. In both the row is live no more.
+// The same by the two branches of a live row r: the lightest cover with it, and one without it if that is lighter still. In both, the row is no longer live.
 fn choose(
     words: &[u64],
     weights: &[u32],

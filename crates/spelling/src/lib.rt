@@ -14,7 +14,7 @@ ghost use Rattle.spelling.specs.Spell.{spellOf, spellAnswer};
 // The widest mark.
 const WIDEST: usize = 6;
 
-// The codes and the cubes of the widest mark: the lengths of arrays that must do for every width.
+// The codes and the cubes of the widest mark: the lengths of arrays that must suffice for every width.
 pub const MOST_CODES: usize = 64;
 
 pub const MOST_CUBES: usize = 729;

@@ -1,4 +1,4 @@
--- `read` gives a width and cells exactly for the texts in form. The run goes by induction: what is read of it is written back character by
+-- `read` gives a width and cells exactly for the texts in form. The run is by induction: what is read of it is written back character by
 -- character. Assumes nothing.
 use mathlib.Core.Path.{_≡_, refl, sym, ap, ap₂, _∙_, subst}
 use mathlib.Core.Logic.{_⊎_, inl, inr, ⊎-elim}

@@ -1,4 +1,4 @@
--- Texts put into a buffer one behind the other are one text; the lines of one row more; and how long the lines of a list are.
+-- Texts put into a buffer one after the other are one text; the lines of one more row; and how long the lines of a list are.
 -- Assumes nothing.
 use mathlib.Core.Path.{_≡_, sym, ap, _∙_, subst, subst₂}
 use mathlib.Core.List.{List, [], _∷_, _++_, append-nil, append-assoc}
@@ -18,7 +18,7 @@ use Rattle.text.specs.Steps.{mostDigits, mostOutput}
 use Rattle.numbers.specs.Lent.{Puts}
 use Rattle.text.proofs.Decimals.{decimal-length}
 
--- ---- one behind the other
+-- ---- one after the other
 
 -- a loop that puts a text byte by byte, with i the bytes that are put
 pub puts-start : (old : List ℕ) (at : ℕ) → Puts [] old at old (at + 0)

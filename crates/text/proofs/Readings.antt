@@ -1,4 +1,4 @@
--- A reading that takes no byte, one byte that is kept or not, and a piece behind another. Assumes nothing.
+-- A reading that takes no byte, one byte that is kept or not, and a piece after another. Assumes nothing.
 use mathlib.Core.Path.{_≡_, refl, sym, ap, _∙_}
 use mathlib.Core.List.{List, [], _∷_, _++_}
 use Prim.Native.Nat.{ℕ, _<_}

@@ -1,5 +1,5 @@
 -- Stepping over the bytes of a text: a piece and then the rest are the whole; a wrong byte stays wrong; and to step over all bytes and to close is to
--- read the whole. The run goes by induction on the bytes left, with the cells before them. Assumes nothing.
+-- read the whole. The run is by induction on the bytes left, with the cells before them. Assumes nothing.
 use mathlib.Core.Path.{_≡_, refl, sym, ap, _∙_}
 use mathlib.Core.Bool.{Bool, true, false, cond, _&&_}
 use mathlib.Core.List.{List, [], _∷_, _++_, append-nil}
@@ -38,7 +38,7 @@ joined-one xs c (refuses k) = refl
 joined-one xs c (gives ys) = ap gives (append-snoc xs c ys)
 
 module _ (n : ℕ) where
-  -- a run behind which the bytes bs stand, with the cells xs read
+  -- a run followed by the bytes bs, with the cells xs read
   abbrev Says : List ℕ → List ℕ → Type 0
   Says xs bs = closed (fed (inRun n (keep xs)) bs) ≡ keptOf (ofWidth n (joined xs (readRun bs)))
 

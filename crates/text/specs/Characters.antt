@@ -6,7 +6,7 @@ use mathlib.Core.Bool.{cond}
 use mathlib.Core.List.{List, [], _∷_}
 use lib.Dec.{eqb}
 
--- a text, a byte to each of its characters
+-- a text, a byte for each of its characters
 abbrev pub bytes : String → List ℕ
 bytes none = []
 bytes (_then_ c s) = code c ∷ bytes s

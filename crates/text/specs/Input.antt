@@ -37,11 +37,11 @@ isDigit b = leb (code "0") b && leb b (code "9")
 abbrev pub widthOf : ℕ → ℕ
 widthOf b = b - code "0"
 
--- "`0` (barred), `1` (wanted) or `-` (free)"; any other byte is 3, which is no cell
+-- "`0` (barred), `1` (wanted) or `-` (free)"; any other byte is 3, which is not a cell
 abbrev pub cellOf : ℕ → ℕ
 cellOf b = cond (eqb b (code "0")) 0 (cond (eqb b (code "1")) 1 (cond (eqb b (code "-")) 2 3))
 
--- the byte is of a run
+-- the byte belongs to a run
 abbrev pub isCell : ℕ → Bool
 isCell b = leb (cellOf b) 2
 
@@ -55,7 +55,7 @@ abbrev pub before : ℕ → Answer (List ℕ) → Answer (List ℕ)
 before c (refuses k) = refuses k
 before c (gives cells) = gives (c ∷ cells)
 
--- the cells of a run behind which stand a line feed and the end
+-- the cells of a run followed by a line feed and the end
 unfoldable pub readRun : List ℕ → Answer (List ℕ)
 readRun [] = refuses notInForm
 readRun (b ∷ bs) = cond (eqb b lineFeed) (cond (isEnd bs) (gives []) (refuses notInForm)) (cond (isCell b) (before (cellOf b) (readRun bs)) (refuses notInForm))

@@ -1,4 +1,4 @@
--- What the program `rows` prints. Which of several equally good lists Plan writes is left open, so the list is a parameter; all else is given by the
+-- What the program `rows` prints. Which of several equally good lists Plan writes is left open, so the list is a parameter; the rest is given by the
 -- input. Assumes nothing.
 use mathlib.Core.Path.{_≡_}
 use Prim.Native.Nat.{ℕ, zero, suc, _/_, _%_}
@@ -61,7 +61,7 @@ printed (gives t) list = tableText (firstOf (tableConditions (t .width) (t .cell
 abbrev pub outputOf : List ℕ → Cover → List ℕ
 outputOf input list = printed (read input) list
 
--- a text stands at the front of a lent buffer, and the answer is its length; what is behind it is unchanged
+-- a text is at the front of a lent buffer, and the answer is its length; what follows it is unchanged
 pub record Prints (text old new : List ℕ) (r : ℕ) : Type 0 where
   pub answer : r ≡ length text
   pub places : new ≡ written 0 text old

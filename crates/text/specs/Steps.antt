@@ -1,5 +1,5 @@
 -- What the functions of `text` promise, step by step: the grammar a byte at a time, the cells that are kept in a lent buffer, and room for what
--- is printed. Nothing that the program promises rests on it alone. Assumes nothing.
+-- is printed. No promise of the program cites it. Assumes nothing.
 use mathlib.Core.Path.{_≡_}
 use Prim.Native.Nat.{ℕ, _+_, _*_, _^_, _≤_}
 use mathlib.Core.Bool.{cond}
@@ -24,14 +24,14 @@ mostCells = 2 ^ widest + 1
 abbrev pub keep : List ℕ → List ℕ
 keep cells = take mostCells cells
 
--- the same of what a text says
+-- the same for what a text says
 abbrev pub keptOf : Answer Table → Answer Table
 keptOf (refuses k) = refuses k
 keptOf (gives t) = gives (record { width = t .width; cells = keep (t .cells) })
 
 -- what the bytes so far are the beginning of
 pub data State : Type 0 where
-  -- a text: nothing was read yet
+  -- a text: nothing has been read yet
   atStart : State
   -- a digit, which says this width
   afterDigit : ℕ → State
@@ -42,7 +42,7 @@ pub data State : Type 0 where
   -- no text in form
   wrong : State
 
--- the state behind one more byte
+-- the state after one more byte
 abbrev pub stepped : State → ℕ → State
 stepped atStart b = cond (isDigit b) (afterDigit (widthOf b)) wrong
 stepped (afterDigit n) b = cond (eqb b lineFeed) (inRun n []) wrong
@@ -65,7 +65,7 @@ closed wrong = refuses notInForm
 
 -- ---- a reading, whose cells are kept in a lent buffer
 
--- the state of a reading whose cells stand in the buffer
+-- the state of a reading whose cells are in the buffer
 abbrev pub stateOf : Reading → List ℕ → State
 stateOf Start cells = atStart
 stateOf (Width n) cells = afterDigit n
@@ -81,7 +81,7 @@ cellsKept (Run n count) = count
 cellsKept (End n count) = count
 cellsKept Wrong = 0
 
--- the buffer has a place for each cell that may be kept, and no more cells are
+-- the buffer has a place for each cell that may be kept, and no more cells are kept
 pub record Room (reading : Reading) (cells : List ℕ) : Type 0 where
   pub places : mostCells ≤ length cells
   pub most : cellsKept reading ≤ mostCells
@@ -92,7 +92,7 @@ pub record Takes (reading : Reading) (old piece : List ℕ) (next : Reading) (ne
   pub room : Room next new
   pub rest : drop mostCells new ≡ drop mostCells old
 
--- a byte leads from one reading to another, whatever cells stand in the buffer
+-- a byte leads from one reading to another, whatever cells are in the buffer
 abbrev pub LeadsTo : Reading → ℕ → Reading → Type 0
 LeadsTo reading byte next = (cells : List ℕ) → mostCells ≤ length cells → Takes reading cells (byte ∷ []) next cells
 
@@ -106,7 +106,7 @@ abbrev pub tableCells : Text → ℕ
 tableCells (text.Table n count) = count
 tableCells (text.Refused k) = 0
 
--- the text ends: the answer is the one that the definition gives, whatever cells stand in the buffer
+-- the text ends: the answer is the one that the definition gives, whatever cells are in the buffer
 pub record Closes (reading : Reading) (r : Text) : Type 0 where
   pub answer : (cells : List ℕ) → textAnswer r cells ≡ closed (stateOf reading cells)
   pub few : tableCells r ≤ cellsKept reading

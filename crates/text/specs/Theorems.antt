@@ -1,4 +1,4 @@
--- What is proved of the texts, as statements over any input, table, number and list. `proofs/` proves them. Assumes nothing.
+-- What is proved about the texts, as statements over any input, table, number and list. `proofs/` proves them. Assumes nothing.
 use mathlib.Core.Path.{_≡_}
 use mathlib.Core.Logic.{_↔_}
 use mathlib.Core.List.{List, [], _∷_, _++_}

@@ -1,4 +1,4 @@
-// The grammar of the input, a byte at a time. However long the run is, the cells of the widest table and one more are kept, in a
+// The grammar of the input, a byte at a time. However long the run is, at most the cells of the widest table and one more are kept, in a
 // lent buffer.
 //
 //     let mut cells = [0u8; MOST_CELLS];
@@ -18,7 +18,7 @@ pub const MOST_CELLS: usize = MOST_CODES + 1;
 
 // What the bytes so far are the beginning of.
 pub enum Reading {
-    // A text: nothing was read yet.
+    // A text: nothing has been read yet.
     Start,
     // A digit: the width.
     Width(usize),
@@ -53,7 +53,7 @@ fn line_feed(n: usize, byte: u8) -> Reading
     Reading::Wrong
 }
 
-// The cell of a character, or 3, which is no cell.
+// The cell of a character, or 3, which is not a cell.
 fn cell_of(byte: u8) -> u8
     ensures { λ r. ⌜ r ≡ cellOf byte ⌝ }
 {

@@ -1,4 +1,4 @@
-// The printed lines. Each function writes into a lent buffer, from place `at` on or from its front, and returns the place behind
+// The printed lines. Each function writes into a lent buffer, from place `at` on or from its front, and returns the place after
 // what it wrote.
 use spelling::MOST_CODES;
 ghost use mathlib.Core.Path.{_≡_};

@@ -1,5 +1,5 @@
 -- `cells::write_codes` meets its contract: the codes of a cube are its one code, or those of the 0 half and then those of the 1 half, and what is
--- put right behind another list is put with it. The measure is the number of untested digits. Assumes nothing.
+-- put right after another list is put with it. The measure is the number of untested digits. Assumes nothing.
 use mathlib.Core.Path.{_≡_, sym, ap, _∙_, subst}
 use mathlib.Core.List.{List, [], _∷_, _++_}
 use Prim.Native.Nat.{ℕ, _+_, _-_, _<_, _≤_}

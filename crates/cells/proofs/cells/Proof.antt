@@ -1,4 +1,4 @@
--- `cells::cells` meets its contract: each return goes by the conditions that led there. Assumes nothing.
+-- `cells::cells` meets its contract: each return follows from the conditions that led there. Assumes nothing.
 use mathlib.Core.Path.{_≡_, sym, _∙_, subst}
 use mathlib.Core.Bool.{true, false}
 use mathlib.Core.List.{List, [], _∷_}

@@ -1,4 +1,4 @@
--- `chart::chart` meets its contract: a walk of its MIR, by hand, for the checker does not cover a lent slice of structs. `prepare` is called with the
+-- `chart::chart` meets its contract: a walk of its MIR, by hand, since the checker does not cover a lent slice of structs. `prepare` is called with the
 -- table; `fill` with the rows, which are given up for good; then `answer`. All that the proof knows of the three is that each meets its contract.
 -- Assumes nothing.
 use mathlib.Core.Path.{_≡_, refl, sym, ap, subst}
@@ -74,7 +74,7 @@ use Rattle.chart.proofs.chart.Statement as stated
 use Rattle.chart.proofs.chart.Code as code
 use Rattle.chart.proofs.chart.Code.Mir as mir
 
--- nothing is had at exit but what says the last rows
+-- nothing is held at exit except what says the last rows
 abbrev stayed : Stays (chart.ended .signature .params) (chart.ended .kept)
 stayed = (stay-dropped (plain (λ _. usize)) yes, (stay-dropped (SliceRefOf (0 ∷ []) tt (plain (λ _. u8)) (λ _. tt)) yes, (gave-slice (1 ∷ []) tt (plain (λ _. R.the-row)), tt)))
 
@@ -182,7 +182,7 @@ module _ {M : Type 1} (𝓤 : URA M) (H : Heap 𝓤) (A : Atoms 𝓤) (W : Given
       abbrev En : Env 𝓤 H
       En = (E′.mir, l₀) ∷ (tyInt w64, l₁) ∷ (bytes, l₂) ∷ (rows, l₃) ∷ (P′.mir, l₄) ∷ (tyInt w64, l₅) ∷ (tyUnit, l₆) ∷ (lent, l₇) ∷ (sliceTy lent, l₈) ∷ []
 
-      -- behind the call of `prepare`
+      -- after the call of `prepare`
       abbrev Behind : List (Item 𝓤)
       Behind = (‵ (flft κ₀ q₀) ⊛ ‵ ftrue) ∷ (‵ (flft κ₁ q₁) ⊛ ‵ ftrue) ∷ ‵ (owns (MutSlice (named 1) κ₁ R.the-row ∷ []) (x, tt) (s ∷ [], tt))
           ∷ ‵ (froom (sliceTy lent) l₈ 0) ∷ ‵ (fdies (sliceTy lent) l₈) ∷ ‵ (froom lent l₇ 0) ∷ ‵ (fdies lent l₇) ∷ ‵ (froom tyUnit l₆ 0) ∷ ‵ (fdies tyUnit l₆) ∷ ‵ (fat fullShare (tyInt w64) l₅ 0 (vint w64 (length ys))) ∷ ‵ (fdies (tyInt w64) l₅)

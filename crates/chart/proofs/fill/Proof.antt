@@ -1,4 +1,4 @@
--- `chart::fill` meets its contract: a walk of its MIR, by hand, for the checker does not cover a lent slice of structs. The borrow is opened once,
+-- `chart::fill` meets its contract: a walk of its MIR, by hand, since the checker does not cover a lent slice of structs. The borrow is opened once,
 -- before the loop, and closed once, after it. A turn calls `row_at`, takes one row out of the slice and stores to it.
 -- Assumes nothing.
 use mathlib.Core.Path.{_≡_, refl, sym, ap, subst}

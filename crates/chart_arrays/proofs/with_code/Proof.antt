@@ -37,7 +37,7 @@ module _ (t : List ℕ) (v w c word : ℕ) where
 shared-slice-read-if1 : tie.Need-shared-slice-read-if1
 shared-slice-read-if1 c = search needs
 
--- behind the test of the cell, the code is wanted
+-- after the test of the cell, the code is wanted
 wanted : (c : tie.Else1) → getD (c .before .before .before .args .table .now) (c .before .before .before .args .c) 0 ≡ 1
 wanted c = omega (arith, c .if1 .left)
 

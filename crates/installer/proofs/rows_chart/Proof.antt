@@ -1,4 +1,4 @@
--- `installer::rows_chart` meets its contract: a walk of its MIR, by hand, for the checker does not cover a lent slice of structs. `chart` is called with
+-- `installer::rows_chart` meets its contract: a walk of its MIR, by hand, since the checker does not cover a lent slice of structs. `chart` is called with
 -- all that is lent, and the rows are given up to it for good; then `count_number`. All that the proof knows of the two is that each meets its contract.
 -- Assumes nothing.
 use mathlib.Core.Path.{_≡_, refl}
@@ -62,7 +62,7 @@ use Rattle.installer.proofs.rows_chart as rows-chart
 use Rattle.installer.proofs.rows_chart.Statement as stated
 use Rattle.installer.proofs.rows_chart.Code as code
 
--- nothing is had at exit but what says the last rows
+-- nothing is held at exit except what says the last rows
 abbrev stayed : Stays (rows-chart.ended .signature .params) (rows-chart.ended .kept)
 stayed = (stay-dropped (plain (λ _. usize)) yes, (stay-dropped (SliceRefOf (0 ∷ []) tt (plain (λ _. u8)) (λ _. tt)) yes, (gave-slice (1 ∷ []) tt (plain (λ _. R.the-row)), tt)))
 
@@ -126,7 +126,7 @@ module _ {M : Type 1} (𝓤 : URA M) (H : Heap 𝓤) (A : Atoms 𝓤) (W : Given
   goes-chart : ent 𝓤 (⋆ 𝓤 H A (tokens ∷ lent ∷ [])) (Charts 𝓤 H A mem run .pre to-chart)
   goes-chart = qed W (tokens ∷ lent ∷ []) ∵ join ! $ frame ! $ done !
 
-  -- what `chart` leaves behind the parameters, of which only the rows can change, and what it says of them and of its answer
+  -- what `chart` leaves in the memory behind the parameters, of which only the rows can change, and what it says of them and of its answer
   abbrev Left : Type 0
   Left = Unit {0} × (Unit {0} × (List ChartRow × Unit {0}))
 

@@ -1,4 +1,4 @@
--- `listfile::put_file` meets its contract: the header, the values and the cares are three runs of stores, each right behind the one before.
+-- `listfile::put_file` meets its contract: the header, the values and the cares are three runs of stores, each right after the one before.
 -- Assumes nothing.
 use mathlib.Core.Path.{_≡_, refl, ap, _∙_}
 use mathlib.Core.List.{List, _++_}

@@ -1,4 +1,4 @@
--- `lists::list_refusal` meets its contract: each return goes by the conditions that led there. Assumes nothing.
+-- `lists::list_refusal` meets its contract: each return follows from the conditions that led there. Assumes nothing.
 use mathlib.Core.Path.{_≡_, sym, ap, _∙_}
 use mathlib.Core.Bool.{true, false}
 use mathlib.Core.List.{List, [], _∷_}

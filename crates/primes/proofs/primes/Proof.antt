@@ -1,4 +1,4 @@
--- `primes::primes` meets its contract: each return goes by the refusal. Assumes nothing.
+-- `primes::primes` meets its contract: each return follows from the refusal. Assumes nothing.
 use mathlib.Core.Path.{_≡_, sym, _∙_}
 use lib.ListN.{length}
 use borrow.Author.Needs.{needs}

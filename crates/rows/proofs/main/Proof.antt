@@ -1,4 +1,4 @@
--- `rows::main` meets its contract: what it hands over is the front of the buffer, and there the whole output stands. Assumes nothing.
+-- `rows::main` meets its contract: what it hands over is the front of the buffer, and the whole output is there. Assumes nothing.
 use borrow.Author.Needs.{needs}
 use borrow.Table.Elements.{length-take-le}
 use mathlib.Core.Path.{sym, subst⁻¹}

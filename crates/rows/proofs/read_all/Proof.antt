@@ -1,4 +1,4 @@
--- `rows::read_all` meets its contract: after each turn the state is the one behind the pieces so far. Assumes nothing.
+-- `rows::read_all` meets its contract: after each turn the state is the one after the pieces so far. Assumes nothing.
 use borrow.Author.Needs.{needs}
 use mathlib.Core.Path.{_≡_, refl, sym, _∙_}
 use Prim.Native.Nat.{_<_}

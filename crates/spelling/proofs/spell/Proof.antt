@@ -1,4 +1,4 @@
--- `spelling::spell` meets its contract: each return goes by the conditions that led there. Assumes nothing.
+-- `spelling::spell` meets its contract: each return follows from the conditions that led there. Assumes nothing.
 use mathlib.Core.Path.{_≡_, sym, ap, ap₂, _∙_, subst}
 use mathlib.Core.Bool.{true, false}
 use mathlib.Core.List.{[], _∷_}

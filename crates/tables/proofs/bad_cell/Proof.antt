@@ -1,4 +1,4 @@
--- `primes::bad_cell` meets its contract: at each turn no cell before c is above 2. Assumes nothing.
+-- `tables::bad_cell` meets its contract: at each turn no cell before c is above 2. Assumes nothing.
 use mathlib.Core.Path.{_≡_, sym}
 use mathlib.Core.Bool.{true, false}
 use mathlib.Core.List.{List}

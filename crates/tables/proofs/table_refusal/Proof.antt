@@ -1,4 +1,4 @@
--- `tables::table_refusal` meets its contract: each return goes by the conditions that led there. Assumes nothing.
+-- `tables::table_refusal` meets its contract: each return follows from the conditions that led there. Assumes nothing.
 use mathlib.Core.Path.{_≡_, sym, ap, _∙_}
 use mathlib.Core.Bool.{true, false, not}
 use mathlib.Core.List.{List, [], _∷_}

@@ -1,4 +1,5 @@
--- `search::branching::branching_row` meets its contract: the row is one for an undecided column, which is the column where there is none. Assumes nothing.
+-- `search::branching::branching_row` meets its contract: the row is one for an undecided column, and where it has no row, that is the column without one.
+-- Assumes nothing.
 use borrow.Author.Needs.{needs}
 use Rattle.search.proofs.branching.branching_row.Statement.{statement}
 use Rattle.search.proofs.branching.branching_row.Tie as tie

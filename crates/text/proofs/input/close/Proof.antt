@@ -1,4 +1,4 @@
--- `text::input::close` meets its contract: a text ends in form behind its last line feed, and nowhere else. Assumes nothing.
+-- `text::input::close` meets its contract: a text ends in form after its last line feed, and nowhere else. Assumes nothing.
 use mathlib.Core.Path.{_≡_, refl, subst⁻¹}
 use mathlib.Core.List.{[], _∷_}
 use Prim.Native.Nat.{ℕ}

@@ -1,4 +1,4 @@
--- `text::input::run` meets its contract: a cell is stored where there is place for it, and behind the last place it would be cut off.
+-- `text::input::run` meets its contract: a cell is stored where there is room for it, and after the last place it would be cut off.
 -- Assumes nothing.
 use mathlib.Core.Path.{_≡_, sym, ap, ap₂, _∙_}
 use mathlib.Core.Bool.{Bool, true, false, cond}

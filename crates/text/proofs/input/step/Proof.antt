@@ -1,4 +1,4 @@
--- `text::input::step` meets its contract: each arm is that of the state that the reading is. Assumes nothing.
+-- `text::input::step` meets its contract: each arm is that of the reading's state. Assumes nothing.
 use mathlib.Core.Path.{_≡_, refl, subst, subst⁻¹}
 use mathlib.Core.List.{List, [], _∷_}
 use Prim.Native.Nat.{ℕ}

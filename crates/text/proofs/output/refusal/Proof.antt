@@ -1,4 +1,4 @@
--- `text::output::refusal` meets its contract: a word, its number and a line feed, one behind the other. Assumes nothing.
+-- `text::output::refusal` meets its contract: a word, its number and a line feed, one after the other. Assumes nothing.
 use mathlib.Core.List.{[], _∷_, _++_}
 use Prim.Native.Nat.{_+_, _≤_}
 use native.Mathlib.Omega.{arith}

@@ -1,4 +1,4 @@
--- `text::output::totals` meets its contract: two words with their numbers and a line feed, one behind the other. Assumes nothing.
+-- `text::output::totals` meets its contract: two words with their numbers and a line feed, one after the other. Assumes nothing.
 use mathlib.Core.List.{List, [], _∷_, _++_}
 use Prim.Native.Nat.{ℕ}
 use borrow.Author.Needs.{needs}
