@@ -121,7 +121,7 @@ def closed(fd):
     return before
 
 
-def waiting_pipe(text):
+def nonblocking_pipe(text):
     """A pipe that holds a text and may get more. Its read end is non-blocking: a read fails when there is nothing."""
     read_end, write_end = os.pipe()
     os.set_blocking(read_end, False)
@@ -136,10 +136,10 @@ def reads():
     with open("/dev/null", "rb") as nothing:
         expect("nothing on standard input", ended(start(nothing)), refused)
     folder = os.open("/", os.O_RDONLY)
-    expect("a folder as standard input", ended(start(folder)), refused)
+    expect("a directory as standard input", ended(start(folder)), refused)
     os.close(folder)
-    for name, text in [("an empty pipe that does not wait", b""), ("a pipe that holds a whole table and does not wait", TABLE)]:
-        read_end, write_end = waiting_pipe(text)
+    for name, text in [("an empty non-blocking pipe", b""), ("a non-blocking pipe that holds a whole table", TABLE)]:
+        read_end, write_end = nonblocking_pipe(text)
         expect(name, ended(start(read_end)), refused)
         os.close(read_end)
         os.close(write_end)

@@ -15,7 +15,6 @@ abbrev pub _∪_ : (ℕ → Bool) → (ℕ → Bool) → ℕ → Bool
 _∪_ p q i = p i || q i
 
 infixr 5 _∪_
-
 -- A reduction of the rows A and the columns U to A′ and U′, in which the rows `taken` of weight `cost` are taken: no more rows are live, a lower bound
 -- of what is left bounds the whole, and a cover of what is left is one of the whole with the rows taken.
 pub record Reduced (cov : ℕ → ℕ → Type 0) (w : ℕ → ℕ) (n : ℕ) (A U A′ U′ : ℕ → Type 0) (taken : ℕ → Bool) (cost : ℕ) : Type 0 where
