@@ -12,7 +12,7 @@
 
 #define MOST_ROWS 768
 
-uint64_t minimum_cover(const uint64_t *words, size_t rows, const uint32_t *weights, size_t same, uint64_t columns, uint64_t *effort);
+uint64_t minimum_cover(const uint64_t *words, size_t rows, const uint32_t *weights, size_t weights_len, uint64_t columns, uint64_t *effort);
 
 static double microseconds(void) {
     struct timespec now;

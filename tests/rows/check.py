@@ -187,7 +187,7 @@ def writes():
     expect("a pipe without a reader, and its signal", ended(start(subprocess.PIPE, write_end), TABLE), (None, b"", -signal.SIGPIPE))
     os.close(write_end)
     read_end, write_end = full_pipe()
-    expect("a full pipe that does not wait", ended(start(subprocess.PIPE, write_end), TABLE), (None, FAILED, 0))
+    expect("a full non-blocking pipe", ended(start(subprocess.PIPE, write_end), TABLE), (None, FAILED, 0))
     os.close(read_end)
     os.close(write_end)
     with tempfile.TemporaryFile() as file:

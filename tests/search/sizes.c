@@ -3,7 +3,7 @@
 #include <inttypes.h>
 #include <stdio.h>
 
-uint64_t minimum_cover(const uint64_t *words, size_t rows, const uint32_t *weights, size_t same, uint64_t columns, uint64_t *effort);
+uint64_t minimum_cover(const uint64_t *words, size_t rows, const uint32_t *weights, size_t weights_len, uint64_t columns, uint64_t *effort);
 
 enum { MOST_ROWS = 768, ROOM = 2000, SIDE = 4 };
 
@@ -11,7 +11,7 @@ static const uint64_t beside = 0xA5A5A5A5A5A5A5A5u;
 static int passed, failed;
 
 /* This many rows and this many weights must get this answer. Row i has column i % 64 and weighs 1000 + i. */
-static void expect(size_t rows, size_t same, uint64_t want) {
+static void expect(size_t rows, size_t weights_len, uint64_t want) {
     static uint64_t words[ROOM], effort[SIDE + 2 + SIDE];
     static uint32_t weights[ROOM];
     uint64_t columns = 0;
@@ -23,7 +23,7 @@ static void expect(size_t rows, size_t same, uint64_t want) {
     for (size_t i = 0; i < 2 * SIDE + 2; i++) {
         effort[i] = beside;
     }
-    uint64_t answer = minimum_cover(words, rows, weights, same, columns, effort + SIDE);
+    uint64_t answer = minimum_cover(words, rows, weights, weights_len, columns, effort + SIDE);
     int changed = 0;
     for (size_t i = 0; i < 2 * SIDE + 2; i++) {
         int lent = i == SIDE || i == SIDE + 1;
@@ -33,7 +33,7 @@ static void expect(size_t rows, size_t same, uint64_t want) {
         passed++;
     } else {
         failed++;
-        printf("%zu rows and %zu weights: %" PRIu64 ", expected %" PRIu64 ", and %d words changed\n", rows, same, answer, want, changed);
+        printf("%zu rows and %zu weights: %" PRIu64 ", expected %" PRIu64 ", and %d words changed\n", rows, weights_len, answer, want, changed);
     }
 }
 

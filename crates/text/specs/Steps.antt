@@ -86,7 +86,8 @@ pub record Room (reading : Reading) (cells : List ℕ) : Type 0 where
   pub places : mostCells ≤ length cells
   pub most : cellsKept reading ≤ mostCells
 
--- a reading takes a piece: the state is the one that the definition gives, and the buffer past `mostCells` places is unchanged
+-- a reading takes a piece: the state is the one that the definition gives, and the buffer past `mostCells` places is unchanged. Left open: what is in the
+-- places of the buffer that hold no cell that is kept
 pub record Takes (reading : Reading) (old piece : List ℕ) (next : Reading) (new : List ℕ) : Type 0 where
   pub state : stateOf next new ≡ fed (stateOf reading old) piece
   pub room : Room next new
