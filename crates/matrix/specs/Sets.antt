@@ -36,6 +36,11 @@ pub record Emptiness (x : ColumnSet) (b : Bool) : Type 0 where
   pub none : b ≡ true → (c : ℕ) → In x c → ⊥
   pub some : b ≡ false → (c : ℕ) × In x c
 
+-- b tells whether two sets have a column in common
+pub record Meeting (x y : ColumnSet) (b : Bool) : Type 0 where
+  pub some : b ≡ true → (c : ℕ) × In x c × In y c
+  pub none : b ≡ false → (c : ℕ) → In x c → In y c → ⊥
+
 -- b tells whether every column of x is one of y
 pub record Inclusion (x y : ColumnSet) (b : Bool) : Type 0 where
   pub all : b ≡ true → (c : ℕ) → In x c → In y c

@@ -3,7 +3,7 @@ ghost use mathlib.Core.Path.{_≡_};
 ghost use mathlib.Core.Bool.{not, _&&_, _||_};
 ghost use Prim.Native.Nat.{ℕ, _+_, _^_, _≤_, _<_};
 ghost use lib.Dec.{eqb};
-ghost use Rattle.matrix.specs.Sets.{columnLimit, has, Emptiness, Inclusion, Next};
+ghost use Rattle.matrix.specs.Sets.{columnLimit, has, Emptiness, Meeting, Inclusion, Next};
 use crate::words;
 
 // A set of columns.
@@ -54,6 +54,13 @@ pub fn both(a: Set, b: Set) -> Set
     ensures { λ r. ⌜ ((x : ℕ) → has r x ≡ (has a x && has b x)) ⌝ }
 {
     a & b
+}
+
+// Whether two sets have a column in common.
+pub fn meets(a: Set, b: Set) -> bool
+    ensures { λ r. ⌜ Meeting a b r ⌝ }
+{
+    !is_empty(both(a, b))
 }
 
 // The columns of either set.
