@@ -12,7 +12,7 @@ use borrow.Author.Tests.{lt-ltb, le-ltb}
 use Rattle.numbers.specs.Below.{flag}
 use Rattle.numbers.proofs.Bools.{lt-or-le}
 use Rattle.numbers.proofs.Below.{flag-lt}
-use Rattle.matrix.specs.Sets.{has}
+use Rattle.matrix.specs.Sets.{hasBit, has}
 use Rattle.chart_arrays.specs.Columns.{wordOf}
 
 flag-times : (b : Bool) (x : ℕ) → flag b * x ≤ x
@@ -72,7 +72,7 @@ bit-word m f c = ⊎-elim inside outside (lt-or-le c m)
 
 -- a bit that tells something tells whether the set has the column
 pub bit-has : (x c : ℕ) (b : Bool) → x / 2 ^ c % 2 ≡ flag b → has x c ≡ b
-unfolding has
+unfolding hasBit
 bit-has x c b e = ap (λ (i : ℕ). eqb i 1) e ∙ go b
   where
     go : (b : Bool) → eqb (flag b) 1 ≡ b

@@ -1,30 +1,28 @@
 -- Counting the entries of a column by two words: which columns were met once, which twice. A prime that holds the sole entry of a column is a
 -- single asterisk row of McCluskey's table, so it is essential. Assumes nothing.
-use mathlib.Core.Path.{_≡_, refl, sym, ap, ap₂, _∙_, subst}
-use mathlib.Core.Bool.{Bool, true, false, cond, not, _&&_, _||_, false≢true}
+use mathlib.Core.Path.{_≡_, refl, sym, ap, ap₂, _∙_, subst⁻¹}
+use mathlib.Core.Bool.{Bool, true, false, cond, not, _&&_, _||_}
 use mathlib.Core.List.{List}
 use Prim.Native.Nat.{ℕ, zero, suc, _+_, _^_, _<_}
-use native.Mathlib.Nat.{lt-of-le-of-lt, pos-of-ne-zero}
 use native.Mathlib.Numerals.{add-one}
 use native.Mathlib.Omega.{arith}
-use lib.Bits.{bitAnd, and-le-l}
-use lib.Count.{trailingZeros}
-use lib.Pow.{pow-pos}
+use native.Mathlib.Decide.{ℕ-discrete}
 use lib.Dec.{T, eqb, leb, ltb, eqb→eq, ltb→lt, lt→ltb}
-use lib.ListN.{length, getD}
+use lib.ListN.{length, getD, set}
+use lib.Seq.{getD-set-same, getD-set-other}
 use borrow.Author.Tests.{le-leb, eq-eqb, ne-eqb}
 use Rattle.numbers.specs.Below.{flag}
 use Rattle.cube.specs.Words.{onSet, cubeMatches, prime, essential, primesOf}
 use Rattle.cube.specs.McCluskey as mccluskey
-use Rattle.numbers.proofs.Bools.{and-l, and-r, and-i, not-e, not-i, same, is-true, holds, eqb-of}
+use Rattle.numbers.proofs.Bools.{and-l, and-r, and-i, is-true, is-false, holds}
 use Rattle.numbers.proofs.Below.{count-none, count-suc, count-those, those-same}
 use Rattle.cube.proofs.McCluskey.{agreement}
-use Rattle.matrix.specs.Sets.{has, In}
-use Rattle.matrix.proofs.Bits.{has-and, has-zero, lowest-in}
+use Rattle.matrix.specs.Sets.{has, In, Meeting}
+use Rattle.matrix.proofs.Bits.{has-zero}
 use Rattle.chart_arrays.specs.Columns.{column, columnsOf}
 use Rattle.chart_arrays.proofs.Columns.{bit-has}
 use Rattle.chart_arrays.proofs.Theorems.{word-tells}
-use Rattle.essentials.specs.Steps.{PrimeWords, entries, Seen, SoleColumns}
+use Rattle.essentials.specs.Steps.{PrimeWords, entries, Seen, SoleColumns, HolderMark, HolderMarks}
 
 -- ---- once and twice
 
@@ -73,14 +71,18 @@ pub sole-of : (words : List ℕ) (m once twice sole : ℕ) → Seen words m once
     → SoleColumns words m sole
 sole-of words m once twice sole s f c = f c ∙ ap₂ (λ (x y : Bool). x && not y) (s .one c) (s .two c) ∙ just-one (entries words m c)
 
+-- ---- the mark of one word more
+
+pub holders-more : (words : List ℕ) (sole : ℕ) (marks : List ℕ) (q x : ℕ) (b : Bool) → q < length marks → HolderMarks words sole marks q → Meeting (getD words q 0) sole b
+    → x ≡ flag b → HolderMarks words sole (set marks q x) (q + 1)
+holders-more words sole marks q x b l h m e k n = go (ℕ-discrete k q)
+  where
+    go : Dec (k ≡ q) → HolderMark (getD words k 0) sole (getD (set marks q x) k 0)
+    go (yes d) =
+        subst⁻¹ (λ (i : ℕ). HolderMark (getD words i 0) sole (getD (set marks q x) i 0)) d (record { held = b; tells = m; is = getD-set-same marks q x 0 l ∙ e })
+    go (no d) = subst⁻¹ (HolderMark (getD words k 0) sole) (getD-set-other marks q k x 0 d) (h k (omega arith))
+
 -- ---- a prime with a sole entry is essential
-
--- a word is no empty set exactly where it has a column
-some-column : (d x : ℕ) → x < 2 ^ d → (x ≡ 0 → ⊥) → (c : ℕ) × In x c
-some-column d x l h = (trailingZeros d x, lowest-in d x (pos-of-ne-zero h) l)
-
-no-column : (x c : ℕ) → In x c → x ≡ 0 → ⊥
-no-column x c h e = false≢true (sym (has-zero c) ∙ sym (ap (λ (i : ℕ). has i c) e) ∙ h)
 
 module _ (n : ℕ) (t words : List ℕ) (sole : ℕ) (p : PrimeWords n t words (3 ^ n)) (s : SoleColumns words (3 ^ n) sole) where
   -- the entries of the words are the entries of the table, in a wanted code
@@ -103,42 +105,25 @@ module _ (n : ℕ) (t words : List ℕ) (sole : ℕ) (p : PrimeWords n t words (
       ∙ sym (count-those (prime n t) (λ q. cubeMatches n q c) (3 ^ n))
 
   module _ (q : ℕ) (l : q < 3 ^ n) where
-    held : ℕ
-    held = bitAnd (getD words q 0) sole
+    to : (c : ℕ) × In (getD words q 0) c × In sole c → T (essential n t q)
+    to r =
+        let c = r .0 in
+        let entry = holds (prime n t q && (ltb c (2 ^ n) && column n t q c)) (sym (has-prime q c l) ∙ r .1) in
+        let inside = and-r (prime n t q) (ltb c (2 ^ n) && column n t q c) entry in
+        let below : c < 2 ^ n = ltb→lt c (2 ^ n) (and-l (ltb c (2 ^ n)) (column n t q c) inside) in
+        let wanted = and-l (onSet t c) (cubeMatches n q c) (and-r (ltb c (2 ^ n)) (column n t q c) inside) in
+        let matched = and-r (onSet t c) (cubeMatches n q c) (and-r (ltb c (2 ^ n)) (column n t q c) inside) in
+        let one = eqb→eq (entries words (3 ^ n) c) 1 (holds (eqb (entries words (3 ^ n) c) 1) (sym (s c) ∙ r .2)) in
+        let row = agreement n t .primes q l .0 (and-l (prime n t q) (ltb c (2 ^ n) && column n t q c) entry) in
+        agreement n t .essentials q l .1 (record {
+          row = row;
+          column = c;
+          is-column = record { row = below; one = wanted };
+          entry = matched;
+          sole = agreement n t .one-cross c q row matched .1 (sym (entries-are c below wanted) ∙ one);
+        })
 
-    held-lt : held < 2 ^ (2 ^ n)
-    unfolding held
-    held-lt = lt-of-le-of-lt (and-le-l (getD words q 0) sole) (subst (λ (x : ℕ). x < 2 ^ (2 ^ n)) (sym (p q l)) (go (prime n t q)))
-      where
-        go : (b : Bool) → cond b (columnsOf n t q) 0 < 2 ^ (2 ^ n)
-        go true = word-tells n t q .below
-        go false = pow-pos (2 ^ n)
-
-    to : T (not (eqb held 0)) → T (essential n t q)
-    unfolding held
-    to h = single (some-column (2 ^ n) held held-lt (λ e. not-e (eqb held 0) h (eqb-of held 0 e)))
-      where
-        single : (c : ℕ) × In held c → T (essential n t q)
-        single r =
-            let c = r .0 in
-            let both = holds (has (getD words q 0) c && has sole c) (sym (has-and (getD words q 0) sole c) ∙ r .1) in
-            let entry = holds (prime n t q && (ltb c (2 ^ n) && column n t q c)) (sym (has-prime q c l) ∙ is-true (has (getD words q 0) c) (and-l (has (getD words q 0) c) (has sole c) both)) in
-            let inside = and-r (prime n t q) (ltb c (2 ^ n) && column n t q c) entry in
-            let below : c < 2 ^ n = ltb→lt c (2 ^ n) (and-l (ltb c (2 ^ n)) (column n t q c) inside) in
-            let wanted = and-l (onSet t c) (cubeMatches n q c) (and-r (ltb c (2 ^ n)) (column n t q c) inside) in
-            let matched = and-r (onSet t c) (cubeMatches n q c) (and-r (ltb c (2 ^ n)) (column n t q c) inside) in
-            let one = eqb→eq (entries words (3 ^ n) c) 1 (holds (eqb (entries words (3 ^ n) c) 1) (sym (s c) ∙ is-true (has sole c) (and-r (has (getD words q 0) c) (has sole c) both))) in
-            let row = agreement n t .primes q l .0 (and-l (prime n t q) (ltb c (2 ^ n) && column n t q c) entry) in
-            agreement n t .essentials q l .1 (record {
-              row = row;
-              column = c;
-              is-column = record { row = below; one = wanted };
-              entry = matched;
-              sole = agreement n t .one-cross c q row matched .1 (sym (entries-are c below wanted) ∙ one);
-            })
-
-    from : T (essential n t q) → T (not (eqb held 0))
-    unfolding held
+    from : T (essential n t q) → (c : ℕ) × In (getD words q 0) c × In sole c
     from h =
         let a = agreement n t .essentials q l .0 h in
         let c = a .column in
@@ -146,8 +131,8 @@ module _ (n : ℕ) (t words : List ℕ) (sole : ℕ) (p : PrimeWords n t words (
         let entry : In (getD words q 0) c = at-column c q (a .is-column .row) (a .is-column .one) l ∙ is-true (prime n t q && cubeMatches n q c) (and-i (prime n t q) (cubeMatches n q c) is-prime (a .entry)) in
         let one = agreement n t .one-cross c q (a .row) (a .entry) .0 (a .sole) in
         let alone : In sole c = s c ∙ eq-eqb (entries words (3 ^ n) c) 1 (entries-are c (a .is-column .row) (a .is-column .one) ∙ one) in
-        not-i (eqb held 0) (λ e. no-column held c (has-and (getD words q 0) sole c ∙ ap₂ _&&_ entry alone) (eqb→eq held 0 e))
+        (c, entry, alone)
 
-    pub holder-is-essential : not (eqb (bitAnd (getD words q 0) sole) 0) ≡ essential n t q
-    unfolding held
-    holder-is-essential = same (not (eqb held 0)) (essential n t q) to from
+    pub holder-is-essential : (b : Bool) → Meeting (getD words q 0) sole b → b ≡ essential n t q
+    holder-is-essential true h = sym (is-true (essential n t q) (to (h .some refl)))
+    holder-is-essential false h = sym (is-false (essential n t q) (λ e. let a = from e in h .none refl (a .0) (a .1) (a .2)))

@@ -2,13 +2,13 @@
 -- Assumes nothing.
 use mathlib.Core.Path.{_≡_}
 use Prim.Native.Nat.{ℕ, _<_}
-use mathlib.Core.Bool.{cond}
+use mathlib.Core.Bool.{Bool, cond}
 use mathlib.Core.List.{List}
 use lib.Dec.{eqb, leb}
 use lib.ListN.{length, getD}
-use Rattle.numbers.specs.Below.{those}
+use Rattle.numbers.specs.Below.{flag, those}
 use Rattle.cube.specs.Words.{prime}
-use Rattle.matrix.specs.Sets.{has}
+use Rattle.matrix.specs.Sets.{has, Meeting}
 use Rattle.chart_arrays.specs.Columns.{columnsOf}
 
 -- the words of the cubes below m: the columns of a prime, none for another cube
@@ -27,3 +27,13 @@ pub record Seen (words : List ℕ) (m once twice : ℕ) : Type 0 where
 -- the columns that one of the first m words alone has
 abbrev pub SoleColumns : List ℕ → ℕ → ℕ → Type 0
 SoleColumns words m sole = (c : ℕ) → has sole c ≡ eqb (entries words m c) 1
+
+-- the mark of a word is 1 if the word has one of the columns `sole`, else 0
+pub record HolderMark (word sole mark : ℕ) : Type 0 where
+  pub held : Bool
+  pub tells : Meeting word sole held
+  pub is : mark ≡ flag held
+
+-- the marks of the first m words
+abbrev pub HolderMarks : List ℕ → ℕ → List ℕ → ℕ → Type 0
+HolderMarks words sole marks m = (q : ℕ) → q < m → HolderMark (getD words q 0) sole (getD marks q 0)

@@ -7,18 +7,16 @@ use cube::Counted;
 use matrix::columns;
 use spelling::MOST_CUBES;
 ghost use mathlib.Core.Path.{_≡_};
-ghost use mathlib.Core.Bool.{cond, not};
+ghost use mathlib.Core.Bool.{cond};
 ghost use Prim.Native.Nat.{_<_, _≤_, _^_};
-ghost use lib.Bits.{bitAnd};
-ghost use lib.Dec.{eqb};
-ghost use lib.ListN.{length, getD};
+ghost use lib.ListN.{length};
 ghost use Rattle.numbers.specs.Lent.{Puts};
 ghost use Rattle.cube.specs.Words.{prime, essential, essentialsOf};
 ghost use Rattle.cube.specs.Calls.{widest, Listed};
 ghost use Rattle.primes.specs.Primes.{primesRefuses};
 ghost use Rattle.primes.specs.Steps.{Flagged, Marks, isMarked};
 ghost use Rattle.chart_arrays.specs.Columns.{columnsOf};
-ghost use Rattle.essentials.specs.Steps.{PrimeWords, SoleColumns};
+ghost use Rattle.essentials.specs.Steps.{PrimeWords, SoleColumns, HolderMarks};
 
 // The word of cube q: its columns if it is marked as a prime, else none.
 fn prime_word(n: usize, table: &[u8], marks: &[u8], q: usize) -> columns::Set
@@ -64,11 +62,11 @@ fn sole_columns(words: &[u64], m: usize) -> columns::Set
 // Marks the words that have one of the columns.
 fn mark_holders(words: &[u64], m: usize, sole: columns::Set, marks: &mut [u8])
     requires { ⌜ (m ≤ length (now words)) × (m ≤ length (now marks)) ⌝ }
-    ensures { λ _. ⌜ Marks (λ q. not (eqb (bitAnd (getD (now (words .entry)) q 0) sole) 0)) (now (marks .exit)) m ⌝ }
+    ensures { λ _. ⌜ HolderMarks (now (words .entry)) sole (now (marks .exit)) m ⌝ }
 {
     let mut q = 0;
     while q < m {
-        marks[q] = (words[q] & sole != 0) as u8;
+        marks[q] = columns::meets(words[q], sole) as u8;
         q += 1;
     }
 }

@@ -1,7 +1,7 @@
--- Words as sets of columns: what each operation on words does to a column, as an equation of flags. Each goes by the quotient by 2 ^ c, under which the
--- operations on words stay what they are, and then by the lowest digit. Assumes nothing.
+-- Words as sets of bits: what each operation on words does to a bit, as an equation of flags. Each goes by the quotient by 2 ^ c, under which the
+-- operations on words stay what they are, and then by the lowest digit. A set of columns is one word, so this holds of columns too. Assumes nothing.
 use mathlib.Core.Path.{_≡_, refl, sym, ap, subst, _∙_}
-use mathlib.Core.Bool.{false, not, _&&_, _||_}
+use mathlib.Core.Bool.{true, false, not, _&&_, _||_}
 use Prim.Native.Nat.{ℕ, zero, suc, _+_, _-_, _*_, _/_, _%_, _^_, _≤_, _<_, min, max}
 use native.Mathlib.Nat.{zero-lt-suc, pow-suc, div-lt-iff-lt-mul, div-div-eq-div-mul, div-one, zero-div, lt-of-lt-of-le, lt-of-le-of-lt, div-le-self, div-eq-of-lt, div-self, mul-mod-left, one-mul, mod-eq-of-lt}
 use native.Mathlib.Omega.{arith}
@@ -12,7 +12,7 @@ use lib.Bits.{bitAnd, bitOr, bitXor, differ, and-step, or-step, xor-step, and-sh
 use lib.Count.{trailingZeros, under}
 use borrow.Author.Tests.{eq-eqb, ne-eqb}
 use Rattle.numbers.proofs.Flags.{clash, kept-of}
-use Rattle.matrix.specs.Sets.{wordBits, has, In, Next}
+use Rattle.matrix.specs.Sets.{wordBits, hasBit, In, Next}
 
 digit : ℕ → ℕ → ℕ
 digit x c = x / 2 ^ c % 2
@@ -59,30 +59,30 @@ digit-and a b c = ap (λ (x : ℕ). x % 2) (and-shr a b c) ∙ and-odd (a / 2 ^ 
 
 -- ---- a & b, a | b, a ^ (a & b)
 
-pub has-and : (a b c : ℕ) → has (bitAnd a b) c ≡ (has a c && has b c)
-unfolding has digit
+pub has-and : (a b c : ℕ) → hasBit (bitAnd a b) c ≡ (hasBit a c && hasBit b c)
+unfolding hasBit digit
 has-and a b c = ap (λ (x : ℕ). eqb x 1) (digit-and a b c) ∙ and-flag (digit a c) (digit b c) (digit-lt a c) (digit-lt b c)
 
-pub has-or : (a b c : ℕ) → has (bitOr a b) c ≡ (has a c || has b c)
-unfolding has digit
+pub has-or : (a b c : ℕ) → hasBit (bitOr a b) c ≡ (hasBit a c || hasBit b c)
+unfolding hasBit digit
 has-or a b c = ap (λ (x : ℕ). eqb x 1) (ap (λ (x : ℕ). x % 2) (or-shr a b c) ∙ or-odd (a / 2 ^ c) (b / 2 ^ c)) ∙ or-flag (digit a c) (digit b c) (digit-lt a c) (digit-lt b c)
 
-pub has-without : (a b c : ℕ) → has (bitXor a (bitAnd a b)) c ≡ (has a c && not (has b c))
-unfolding has digit
+pub has-without : (a b c : ℕ) → hasBit (bitXor a (bitAnd a b)) c ≡ (hasBit a c && not (hasBit b c))
+unfolding hasBit digit
 has-without a b c =
     ap (λ (x : ℕ). eqb x 1)
     (ap (λ (x : ℕ). x % 2) (xor-shr a (bitAnd a b) c) ∙ xor-odd (a / 2 ^ c) (bitAnd a b / 2 ^ c) ∙ ap (differ (digit a c)) (digit-and a b c))
     ∙ without-flag (digit a c) (digit b c) (digit-lt a c) (digit-lt b c)
 
 -- x >> c & 1
-pub has-shifted : (x c : ℕ) → eqb (bitAnd (x / 2 ^ c) 1) 1 ≡ has x c
-unfolding has
+pub has-shifted : (x c : ℕ) → eqb (bitAnd (x / 2 ^ c) 1) 1 ≡ hasBit x c
+unfolding hasBit
 has-shifted x c = ap (λ (y : ℕ). eqb y 1) (and-mask (x / 2 ^ c) 1)
 
 -- ---- 0
 
-pub has-zero : (c : ℕ) → has 0 c ≡ false
-unfolding has
+pub has-zero : (c : ℕ) → hasBit 0 c ≡ false
+unfolding hasBit
 has-zero c = ap (λ (x : ℕ). eqb (x % 2) 1) (zero-div (2 ^ c))
 
 -- ---- 1 << d
@@ -95,8 +95,8 @@ even-below e c =
 below-even : (d c : ℕ) → c < d → 2 ^ d / 2 ^ c % 2 ≡ 0
 below-even d c l = let e : d ≡ suc (d - c - 1) + c = omega arith in ap (λ (y : ℕ). 2 ^ y / 2 ^ c % 2) e ∙ even-below (d - c - 1) c
 
-pub has-one : (d c : ℕ) → has (2 ^ d) c ≡ eqb c d
-unfolding has
+pub has-one : (d c : ℕ) → hasBit (2 ^ d) c ≡ eqb c d
+unfolding hasBit
 has-one d c = go (decLt c d) (decLt d c)
   where
     go : Dec (c < d) → Dec (d < c) → eqb (2 ^ d / 2 ^ c % 2) 1 ≡ eqb c d
@@ -108,10 +108,10 @@ has-one d c = go (decLt c d) (decLt d c)
 pub shifted-one : (d : ℕ) → d < wordBits → 1 * 2 ^ d % 2 ^ wordBits ≡ 2 ^ d
 shifted-one d h = ap (λ (y : ℕ). y % 2 ^ wordBits) (one-mul (2 ^ d)) ∙ mod-eq-of-lt (pow-lt h)
 
--- ---- a word's columns end at its width
+-- ---- a word's bits end at its width
 
-pub in-below : (x c d : ℕ) → x < 2 ^ d → In x c → c < d
-unfolding has
+pub in-below : (x c d : ℕ) → x < 2 ^ d → hasBit x c ≡ true → c < d
+unfolding hasBit
 in-below x c d h i = go (decLt c d)
   where
     high : d ≤ c → eqb (x / 2 ^ c % 2) 1 ≡ false
@@ -121,22 +121,22 @@ in-below x c d h i = go (decLt c d)
     go (yes l) = l
     go (no n) = clash i (high (omega arith))
 
--- ---- the lowest column
+-- ---- the lowest bit
 
 -- x >> f
-pub has-shr : (x f c : ℕ) → has (x / 2 ^ f) c ≡ has x (f + c)
-unfolding has
+pub has-shr : (x f c : ℕ) → hasBit (x / 2 ^ f) c ≡ hasBit x (f + c)
+unfolding hasBit
 has-shr x f c = ap (λ (y : ℕ). eqb (y % 2) 1) (div-div-eq-div-mul x (2 ^ f) (2 ^ c) ∙ ap (λ (y : ℕ). x / y) (sym (pow-add 2 f c)))
 
-has-half : (x c : ℕ) → has (x / 2) c ≡ has x (suc c)
-has-half x c = has-shr x 1 c ∙ ap (has x) (omega arith)
+has-half : (x c : ℕ) → hasBit (x / 2) c ≡ hasBit x (suc c)
+has-half x c = has-shr x 1 c ∙ ap (hasBit x) (omega arith)
 
-has-lowest : (x : ℕ) → has x 0 ≡ eqb (x % 2) 1
-unfolding has
+has-lowest : (x : ℕ) → hasBit x 0 ≡ eqb (x % 2) 1
+unfolding hasBit
 has-lowest x = ap (λ (y : ℕ). eqb (y % 2) 1) (div-one x)
 
 -- from the trailing zeros of x / 2 to those of x
-lowest-step : (t x r : ℕ) → x % 2 ≡ r → (r ≡ 0 → In (x / 2) t) → In x (under r t)
+lowest-step : (t x r : ℕ) → x % 2 ≡ r → (r ≡ 0 → hasBit (x / 2) t ≡ true) → hasBit x (under r t) ≡ true
 lowest-step t x zero e h = sym (has-half x t) ∙ h refl
 lowest-step t x (suc zero) e h = has-lowest x ∙ ap (λ (y : ℕ). eqb y 1) e
 lowest-step t x (suc (suc r)) e h = absurd (omega arith)
@@ -147,18 +147,18 @@ half-pos x h e = omega arith
 half-lt : (d x : ℕ) → x < 2 ^ suc d → x / 2 < 2 ^ d
 half-lt d x k = div-lt-iff-lt-mul (zero-lt-suc 1) .1 (subst (λ (y : ℕ). x < y) (pow-suc 2 d) k)
 
-pub lowest-in : (d x : ℕ) → 0 < x → x < 2 ^ d → In x (trailingZeros d x)
+pub lowest-in : (d x : ℕ) → 0 < x → x < 2 ^ d → hasBit x (trailingZeros d x) ≡ true
 unfolding trailingZeros
 lowest-in zero x h k = absurd (omega arith)
 lowest-in (suc d) x h k = lowest-step (trailingZeros d (x / 2)) x (x % 2) refl (λ e. lowest-in d (x / 2) (half-pos x h e) (half-lt d x k))
 
--- no column stands below the lowest
-before-step : (t x r : ℕ) → x % 2 ≡ r → ((c : ℕ) → c < t → has (x / 2) c ≡ false) → (c : ℕ) → c < under r t → has x c ≡ false
+-- no bit stands below the lowest
+before-step : (t x r : ℕ) → x % 2 ≡ r → ((c : ℕ) → c < t → hasBit (x / 2) c ≡ false) → (c : ℕ) → c < under r t → hasBit x c ≡ false
 before-step t x zero e h zero l = has-lowest x ∙ ap (λ (y : ℕ). eqb y 1) e
 before-step t x zero e h (suc c) l = sym (has-half x c) ∙ h c (omega arith)
 before-step t x (suc r) e h c l = absurd (omega arith)
 
-pub before-lowest : (d x c : ℕ) → c < trailingZeros d x → has x c ≡ false
+pub before-lowest : (d x c : ℕ) → c < trailingZeros d x → hasBit x c ≡ false
 unfolding trailingZeros
 before-lowest zero x c l = absurd (omega arith)
 before-lowest (suc d) x c l = before-step (trailingZeros d (x / 2)) x (x % 2) refl (λ c k. before-lowest d (x / 2) c k) c l
@@ -170,23 +170,23 @@ first-lacking d a b l n =
     let x = xor-lt d a (bitAnd a b) l (lt-of-le-of-lt m l) in
     let p : 0 < bitXor a (bitAnd a b) = omega (arith, xor-add-and a (bitAnd a b), and-le-r a (bitAnd a b)) in
     let c = trailingZeros d (bitXor a (bitAnd a b)) in
-    let k = kept-of (has a c) (has b c) (has-without a b c) (lowest-in d (bitXor a (bitAnd a b)) p x) in
+    let k = kept-of (hasBit a c) (hasBit b c) (has-without a b c) (lowest-in d (bitXor a (bitAnd a b)) p x) in
     (c, k .0, k .1)
 
--- ---- the first column from f on, of what is shifted down by f
+-- ---- the first bit from f on, of what is shifted down by f
 
-from-shifted : (x f i : ℕ) → f ≤ i → has (x / 2 ^ f) (i - f) ≡ has x i
-from-shifted x f i l = let e : f + (i - f) ≡ i = omega arith in has-shr x f (i - f) ∙ ap (has x) e
+from-shifted : (x f i : ℕ) → f ≤ i → hasBit (x / 2 ^ f) (i - f) ≡ hasBit x i
+from-shifted x f i l = let e : f + (i - f) ≡ i = omega arith in has-shr x f (i - f) ∙ ap (hasBit x) e
 
-pub next-none : (x f : ℕ) → f ≤ wordBits → x / 2 ^ f ≡ 0 → Next (has x) f wordBits wordBits
+pub next-none : (x f : ℕ) → f ≤ wordBits → x / 2 ^ f ≡ 0 → Next (hasBit x) f wordBits wordBits
 next-none x f l e = record {
   above = l;
   within = omega arith;
-  before = λ i m o. sym (from-shifted x f i m) ∙ ap (λ (y : ℕ). has y (i - f)) e ∙ has-zero (i - f);
+  before = λ i m o. sym (from-shifted x f i m) ∙ ap (λ (y : ℕ). hasBit y (i - f)) e ∙ has-zero (i - f);
   here = λ h. absurd (omega arith);
 }
 
-pub next-some : (x f : ℕ) → x < 2 ^ wordBits → (x / 2 ^ f ≡ 0 → ⊥) → Next (has x) f wordBits (f + trailingZeros wordBits (x / 2 ^ f))
+pub next-some : (x f : ℕ) → x < 2 ^ wordBits → (x / 2 ^ f ≡ 0 → ⊥) → Next (hasBit x) f wordBits (f + trailingZeros wordBits (x / 2 ^ f))
 next-some x f l n = record {
   above = omega arith;
   within = let h = in-below x (f + t) wordBits l found in omega arith;
@@ -197,11 +197,11 @@ next-some x f l n = record {
     t : ℕ
     t = trailingZeros wordBits (x / 2 ^ f)
 
-    found : In x (f + t)
+    found : hasBit x (f + t) ≡ true
     found = sym (has-shr x f t) ∙ lowest-in wordBits (x / 2 ^ f) (omega arith) (lt-of-le-of-lt (div-le-self x (2 ^ f)) l)
 
 -- the first column of a set that has one
-pub first-in : (x : ℕ) {r : ℕ} → x < 2 ^ wordBits → (c : ℕ) × In x c → Next (has x) 0 wordBits r → In x r
+pub first-in : (x : ℕ) {r : ℕ} → x < 2 ^ wordBits → (c : ℕ) × In x c → Next (hasBit x) 0 wordBits r → In x r
 first-in x {r} l i n = go (decLt r wordBits)
   where
     go : Dec (r < wordBits) → In x r

@@ -1,4 +1,4 @@
--- The laws of sets of columns and of rows.
+-- The laws of words, of sets of columns and of sets of rows.
 pub mod Bits
 pub mod Members
 pub mod Walks

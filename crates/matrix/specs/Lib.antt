@@ -1,3 +1,3 @@
--- What a word of columns, a set of rows and a covering matrix on slices mean.
+-- What a word, a set of columns, a set of rows and a covering matrix on slices mean.
 pub mod Sets
 pub mod Matrix

@@ -10,6 +10,10 @@ use lib.ListN.{getD}
 abbrev pub wordBits : ℕ
 wordBits = 64
 
+-- bit b of the word x is set
+unfoldable pub hasBit : ℕ → ℕ → Bool
+hasBit x b = eqb (x / 2 ^ b % 2) 1
+
 -- ---- sets of columns
 
 -- a set of columns is a word
@@ -21,8 +25,8 @@ abbrev pub columnLimit : ℕ
 columnLimit = wordBits
 
 -- the column c is in the set x: bit c of x is set
-unfoldable pub has : ColumnSet → ℕ → Bool
-has x c = eqb (x / 2 ^ c % 2) 1
+abbrev pub has : ColumnSet → ℕ → Bool
+has x c = hasBit x c
 
 abbrev pub In : ColumnSet → ℕ → Type 0
 In x c = has x c ≡ true
@@ -31,6 +35,11 @@ In x c = has x c ≡ true
 pub record Emptiness (x : ColumnSet) (b : Bool) : Type 0 where
   pub none : b ≡ true → (c : ℕ) → In x c → ⊥
   pub some : b ≡ false → (c : ℕ) × In x c
+
+-- b tells whether two sets have a column in common
+pub record Meeting (x y : ColumnSet) (b : Bool) : Type 0 where
+  pub some : b ≡ true → (c : ℕ) × In x c × In y c
+  pub none : b ≡ false → (c : ℕ) → In x c → In y c → ⊥
 
 -- b tells whether every column of x is one of y
 pub record Inclusion (x y : ColumnSet) (b : Bool) : Type 0 where
@@ -53,7 +62,7 @@ rowLimit = rowWords * wordBits
 
 -- the row i is in the set s: bit i % 64 of word i / 64 is set
 unfoldable pub member : RowSet → ℕ → Bool
-member s i = has (getD s (i / wordBits) 0) (i % wordBits)
+member s i = hasBit (getD s (i / wordBits) 0) (i % wordBits)
 
 abbrev pub Member : RowSet → ℕ → Type 0
 Member s i = member s i ≡ true

@@ -3,13 +3,14 @@ ghost use mathlib.Core.Path.{_≡_};
 ghost use mathlib.Core.Bool.{not, _&&_, _||_};
 ghost use Prim.Native.Nat.{ℕ, _+_, _^_, _≤_, _<_};
 ghost use lib.Dec.{eqb};
-ghost use Rattle.matrix.specs.Sets.{columnLimit, has, Emptiness, Inclusion, Next};
+ghost use Rattle.matrix.specs.Sets.{columnLimit, has, Emptiness, Meeting, Inclusion, Next};
+use crate::words;
 
 // A set of columns.
-pub type Set = u64;
+pub type Set = words::Word;
 
 // A set has columns below this number.
-pub const LIMIT: usize = 64;
+pub const LIMIT: usize = words::BITS;
 
 // No column.
 pub const NONE: Set = 0;
@@ -22,7 +23,7 @@ pub fn has(set: Set, c: usize) -> bool
     requires { ⌜ c < columnLimit ⌝ }
     ensures { λ r. ⌜ r ≡ has set c ⌝ }
 {
-    set >> c & 1 == 1
+    words::has(set, c)
 }
 
 // Whether a set has no column.
@@ -37,7 +38,7 @@ pub fn only(c: usize) -> Set
     requires { ⌜ c < columnLimit ⌝ }
     ensures { λ r. ⌜ ((x : ℕ) → has r x ≡ eqb x c) ⌝ }
 {
-    1u64 << c
+    words::only(c)
 }
 
 // The set with the column c more, which is above all of its columns.
@@ -55,18 +56,25 @@ pub fn both(a: Set, b: Set) -> Set
     a & b
 }
 
+// Whether two sets have a column in common.
+pub fn meets(a: Set, b: Set) -> bool
+    ensures { λ r. ⌜ Meeting a b r ⌝ }
+{
+    !is_empty(both(a, b))
+}
+
 // The columns of either set.
 pub fn either(a: Set, b: Set) -> Set
     ensures { λ r. ⌜ ((x : ℕ) → has r x ≡ (has a x || has b x)) ⌝ }
 {
-    a | b
+    words::either(a, b)
 }
 
 // The columns of a that b lacks.
 pub fn without(a: Set, b: Set) -> Set
     ensures { λ r. ⌜ ((x : ℕ) → has r x ≡ (has a x && not (has b x))) ⌝ }
 {
-    a ^ (a & b)
+    words::without(a, b)
 }
 
 // The columns of some words, and those that two of them have.
@@ -106,12 +114,5 @@ pub fn next(set: Set, from: usize) -> usize
     requires { ⌜ from ≤ columnLimit ⌝ }
     ensures { λ r. ⌜ Next (has set) from columnLimit r ⌝ }
 {
-    if from == LIMIT {
-        return LIMIT;
-    }
-    let rest = set >> from;
-    if rest == 0 {
-        return LIMIT;
-    }
-    from + u64::trailing_zeros(rest) as usize
+    words::next(set, from)
 }

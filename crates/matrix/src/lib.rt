@@ -1,5 +1,5 @@
-// The covering matrix on slices: sets of columns are words, sets of rows are arrays of twelve words. The reductions, the bounds and the search ask and
-// change such sets by these functions alone.
+// The covering matrix on slices: sets of columns are words, sets of rows are arrays of twelve words, and `words` asks and changes one word. The
+// reductions, the bounds and the search ask and change such sets by the functions of `columns` and `rows` alone.
 //
 // A row with the columns 0 and 3, asked for its columns: `columns::next(9, 0)` is 0, `columns::next(9, 1)` is 3 and `columns::next(9, 4)` is `columns::LIMIT`, the end.
 ghost use mathlib.Core.Path.{_≡_};
@@ -10,6 +10,7 @@ ghost use Rattle.matrix.specs.Matrix.{rowCount, covered as coveredBy, we
 pub mod columns;
 pub mod rows;
 pub mod transposed;
+pub mod words;
 
 // The number of rows.
 pub fn row_count(words: &[u64]) -> usize

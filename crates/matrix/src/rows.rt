@@ -5,19 +5,16 @@ ghost use Prim.Native.Nat.{ℕ, _≤_, _<_};
 ghost use lib.Dec.{eqb, ltb};
 ghost use Rattle.covering.specs.Weighted.{setSize};
 ghost use Rattle.matrix.specs.Sets.{rowLimit, member, Next};
-use crate::columns;
-
-// The bits of a word.
-pub const BITS: usize = 64;
+use crate::words;
 
 // The words of a set.
 const WORDS: usize = 12;
 
 // A set of rows.
-pub type Set = [u64; WORDS];
+pub type Set = [words::Word; WORDS];
 
 // A set has rows below this number.
-pub const LIMIT: usize = WORDS * BITS;
+pub const LIMIT: usize = WORDS * words::BITS;
 
 // No row.
 pub fn none() -> Set
@@ -31,8 +28,8 @@ pub fn has(set: &Set, i: usize) -> bool
     requires { ⌜ i < rowLimit ⌝ }
     ensures { λ r. ⌜ r ≡ member (now (set .entry)) i ⌝ }
 {
-    let k = i / BITS;
-    columns::has(set[k], i % BITS)
+    let k = i / words::BITS;
+    words::has(set[k], i % words::BITS)
 }
 
 // A set with the row i.
@@ -41,8 +38,8 @@ pub fn with_row(set: Set, i: usize) -> Set
     ensures { λ r. ⌜ ((j : ℕ) → member r j ≡ (eqb j i || member set j)) ⌝ }
 {
     let mut more = set;
-    let k = i / BITS;
-    more[k] = columns::either(columns::only(i % BITS), more[k]);
+    let k = i / words::BITS;
+    more[k] = words::either(words::only(i % words::BITS), more[k]);
     more
 }
 
@@ -52,8 +49,8 @@ pub fn without_row(set: Set, i: usize) -> Set
     ensures { λ r. ⌜ ((j : ℕ) → member r j ≡ (member set j && not (eqb j i))) ⌝ }
 {
     let mut fewer = set;
-    let k = i / BITS;
-    fewer[k] = columns::without(fewer[k], columns::only(i % BITS));
+    let k = i / words::BITS;
+    fewer[k] = words::without(fewer[k], words::only(i % words::BITS));
     fewer
 }
 
@@ -64,7 +61,7 @@ pub fn either(a: Set, b: Set) -> Set
     let mut set = a;
     let mut k: usize = 0;
     while k < WORDS {
-        set[k] = columns::either(set[k], b[k]);
+        set[k] = words::either(set[k], b[k]);
         k += 1;
     }
     set
@@ -92,16 +89,16 @@ pub fn next(set: &Set, from: usize, end: usize) -> usize
 {
     let mut i = from;
     while i < end {
-        let k = i / BITS;
-        let c = columns::next(set[k], i % BITS);
-        if c < BITS {
-            let found = k * BITS + c;
+        let k = i / words::BITS;
+        let c = words::next(set[k], i % words::BITS);
+        if c < words::BITS {
+            let found = k * words::BITS + c;
             if found < end {
                 return found;
             }
             return end;
         }
-        i = (k + 1) * BITS;
+        i = (k + 1) * words::BITS;
     }
     end
 }

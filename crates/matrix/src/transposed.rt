@@ -5,6 +5,7 @@ ghost use Rattle.matrix.specs.Sets.{rowLimit};
 ghost use Rattle.matrix.specs.Matrix.{rowCount};
 use crate::columns;
 use crate::rows;
+use crate::words;
 
 // A set of rows for each column.
 pub type ByColumn = [rows::Set; columns::LIMIT];
@@ -13,11 +14,11 @@ pub type ByColumn = [rows::Set; columns::LIMIT];
 fn note(by_column: &mut ByColumn, set: columns::Set, i: usize)
     requires { ⌜ i < rowLimit ⌝ }
 {
-    let k = i / rows::BITS;
-    let row = columns::only(i % rows::BITS);
+    let k = i / words::BITS;
+    let row = words::only(i % words::BITS);
     let mut c = columns::next(set, 0);
     while c < columns::LIMIT {
-        by_column[c][k] = columns::either(by_column[c][k], row);
+        by_column[c][k] = words::either(by_column[c][k], row);
         c = columns::next(set, c + 1);
     }
 }

@@ -61,9 +61,10 @@ returns c q l =
     let words = c .before .before .before .before .before .before .before .before .before .prime-words .last .1 .1 .1 .0 in
     let sole = c .before .before .before .before .before .sole-columns .result in
     let e = c .before .before .before .before .before .before .before .cubes .ensures in
-    c .before .before .mark-holders .ensures q (subst⁻¹ (λ (m : ℕ). q < m) e l)
+    let h = c .before .before .mark-holders .ensures q (subst⁻¹ (λ (m : ℕ). q < m) e l) in
+    h .is
     ∙ ap flag
-    (holder-is-essential (s .n) (s .table .now) words sole (c .before .before .before .before .before .before .before .before .before .prime-words .ensures) (subst (λ (m : ℕ). SoleColumns words m sole) e (c .before .before .before .before .before .sole-columns .ensures)) q l)
+    (holder-is-essential (s .n) (s .table .now) words sole (c .before .before .before .before .before .before .before .before .before .prime-words .ensures) (subst (λ (m : ℕ). SoleColumns words m sole) e (c .before .before .before .before .before .sole-columns .ensures)) q l (h .held) (h .tells))
 
 pub mark-essentials-spec : {M : Type 1} → statement M
 mark-essentials-spec =

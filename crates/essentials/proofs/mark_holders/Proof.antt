@@ -1,22 +1,18 @@
 -- `essentials::mark_holders` meets its contract: the marks before q are right. Assumes nothing.
 use mathlib.Core.Path.{_≡_, refl}
-use mathlib.Core.Bool.{Bool, not}
-use Prim.Native.Nat.{ℕ, _-_, _≤_}
+use Prim.Native.Nat.{_-_, _≤_}
 use native.Mathlib.Omega.{arith}
-use lib.Bits.{bitAnd}
-use lib.Dec.{eqb}
-use lib.ListN.{length, length-set, getD}
+use lib.ListN.{length, length-set}
 use borrow.Author.Needs.{needs}
-use Rattle.numbers.specs.Below.{flag}
-use Rattle.numbers.proofs.Lent.{fill-more}
-use Rattle.primes.specs.Steps.{Marks}
 use Rattle.primes.proofs.Flags.{byte-is}
+use Rattle.essentials.specs.Steps.{HolderMarks}
+use Rattle.essentials.proofs.SoleEntries.{holders-more}
 use Rattle.essentials.proofs.mark_holders.Statement.{statement}
 use Rattle.essentials.proofs.mark_holders.Tie as tie
 
 abbrev Inv-loop : tie.InvT-loop
 Inv-loop words m sole marks₀ q₀ marks q =
-    (m ≤ length words) × (m ≤ length marks) × (length marks ≡ length marks₀) × (q ≤ m) × Marks (λ q. not (eqb (bitAnd (getD words q 0) sole) 0)) marks q
+    (m ≤ length words) × (m ≤ length marks) × (length marks ≡ length marks₀) × (q ≤ m) × HolderMarks words sole marks q
 
 abbrev μ-loop : tie.MeasureT-loop
 μ-loop words m sole marks₀ q₀ marks q = m - q
@@ -24,11 +20,14 @@ abbrev μ-loop : tie.MeasureT-loop
 loop-holds : tie.Need-loop-holds Inv-loop μ-loop
 loop-holds c = (search needs, search needs, refl, search needs, λ k l. absurd (omega arith))
 
-mul-marks : tie.Need-mul-marks Inv-loop μ-loop
-mul-marks c = omega (arith, c .before .before .good)
+mul-meets : tie.Need-mul-meets Inv-loop μ-loop
+mul-meets c = omega (arith, c .before .before .before .before .good)
 
-shared-slice-read-marks : tie.Need-shared-slice-read-marks Inv-loop μ-loop
-shared-slice-read-marks c = omega arith
+shared-slice-read-meets : tie.Need-shared-slice-read-meets Inv-loop μ-loop
+shared-slice-read-meets c = omega arith
+
+meets-requires : tie.Need-meets-requires Inv-loop μ-loop
+meets-requires c κs = search needs
 
 cast-marks : tie.Need-cast-marks Inv-loop μ-loop
 cast-marks c = search needs
@@ -44,14 +43,13 @@ loop-less c = omega arith
 
 loop-again : tie.Need-loop-again Inv-loop μ-loop
 loop-again c =
-    let i = c .before .before .loop .inv in
-    let s = c .before .before .before .args in
-    let f : ℕ → Bool = λ q. not (eqb (bitAnd (getD (s .words .now) q 0) (s .sole)) 0) in (
+    let i = c .before .before .before .loop .inv in
+    let s = c .before .before .before .before .before .before .args in (
       i .0,
       simp length-set (i .1),
       simp length-set (i .2),
       omega arith,
-      fill-more (λ q. flag (f q)) (c .before .before .loop .marks) _ _ (slice-write-marks c) (i .4) (byte-is (f (c .before .before .loop .q)) _ refl),
+      holders-more (s .words .now) (s .sole) (c .before .before .before .loop .marks) _ _ _ (slice-write-marks c) (i .4) (c .meets .ensures) (byte-is (c .meets .result) _ refl),
     )
 
 same-length : tie.Need-same-length Inv-loop μ-loop
@@ -63,4 +61,4 @@ returns c = λ k l. c .before .loop .inv .4 k (omega arith)
 pub mark-holders-spec : {M : Type 1} → statement M
 mark-holders-spec =
     tie.close
-    (tie.spec Inv-loop μ-loop loop-holds mul-marks shared-slice-read-marks cast-marks slice-write-marks add-q loop-less loop-again same-length returns)
+    (tie.spec Inv-loop μ-loop loop-holds mul-meets shared-slice-read-meets meets-requires cast-marks slice-write-marks add-q loop-less loop-again same-length returns)

@@ -5,7 +5,7 @@ use mathlib.Core.Bool.{Bool, _||_}
 use Prim.Native.Nat.{_/_}
 use native.Mathlib.Omega.{arith}
 use lib.ListN.{getD}
-use Rattle.matrix.specs.Sets.{wordBits, has}
+use Rattle.matrix.specs.Sets.{wordBits, hasBit}
 use Rattle.matrix.proofs.Members.{member-put}
 use Rattle.matrix.proofs.rows.with_row.Statement.{statement}
 use Rattle.matrix.proofs.rows.with_row.Tie as tie
@@ -32,7 +32,7 @@ returns : tie.Need-returns
 returns c =
     let a = c .before .before .args in
     member-put _||_ (λ b. refl) (a .set) (a .i) (c .either .result) (omega arith)
-    (λ x. c .either .ensures x ∙ ap (λ (b : Bool). b || has (getD (a .set) (a .i / wordBits) 0) x) (c .before .only .ensures x))
+    (λ x. c .either .ensures x ∙ ap (λ (b : Bool). b || hasBit (getD (a .set) (a .i / wordBits) 0) x) (c .before .only .ensures x))
 
 pub with-row-spec : {M : Type 1} → statement M
 with-row-spec =

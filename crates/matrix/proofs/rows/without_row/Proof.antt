@@ -5,7 +5,7 @@ use mathlib.Core.Bool.{Bool, not, _&&_, and-true}
 use Prim.Native.Nat.{_/_}
 use native.Mathlib.Omega.{arith}
 use lib.ListN.{getD}
-use Rattle.matrix.specs.Sets.{wordBits, has}
+use Rattle.matrix.specs.Sets.{wordBits, hasBit}
 use Rattle.matrix.proofs.Members.{member-put}
 use Rattle.matrix.proofs.rows.without_row.Statement.{statement}
 use Rattle.matrix.proofs.rows.without_row.Tie as tie
@@ -32,7 +32,7 @@ returns : tie.Need-returns
 returns c =
     let a = c .before .before .args in
     member-put (λ t b. b && not t) and-true (a .set) (a .i) (c .without .result) (omega arith)
-    (λ x. c .without .ensures x ∙ ap (λ (b : Bool). has (getD (a .set) (a .i / wordBits) 0) x && not b) (c .before .only .ensures x))
+    (λ x. c .without .ensures x ∙ ap (λ (b : Bool). hasBit (getD (a .set) (a .i / wordBits) 0) x && not b) (c .before .only .ensures x))
 
 pub without-row-spec : {M : Type 1} → statement M
 without-row-spec =
