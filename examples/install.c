@@ -1,6 +1,6 @@
 /* From a provider's table to the list file for a board: plans the shortest list, checks it on every code, and writes the file.
  *
- *     cc -Iinclude examples/install.c target/staticlib/libinstaller.a -o install && ./install rows.bin
+ *     cc -Iinclude examples/install.c target/staticlib/libinstaller.a -o target/install && target/install target/rows.bin
  */
 #include <stdio.h>
 #include <rows.h>
