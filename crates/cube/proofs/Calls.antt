@@ -11,7 +11,7 @@ use lib.ListN.{length, take, drop}
 use lib.Pow.{pow-mono}
 use borrow.Author.Tests.{ltb-false, eqb-true, not-false}
 use Rattle.cube.specs.Words.{rowsOf, prime, essential, primesOf, essentialsOf}
-use Rattle.cube.specs.Calls.{widest, badWidth, badLength, badCell, unequalLengths, mostRows, tooManyRows, badRow, Condition, when, firstOf, tableConditions, listConditions, Answer, refuses, gives, answered, written, Listed}
+use Rattle.cube.specs.Calls.{widest, badWidth, badLength, unequalLengths, mostRows, tooManyRows, Condition, when, firstOf, tableConditions, listConditions, Answer, refuses, gives, answered, written, Listed}
 use Rattle.cube.specs.declared.Counted.{Counted}
 use Rattle.cube.specs.declared.Counted.the-variants.{Count, Refused}
 use Rattle.numbers.specs.Lent.{Puts}

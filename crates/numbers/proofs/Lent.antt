@@ -11,7 +11,7 @@ use lib.ListN.{length, length-append, length-map, set, take, drop, drop-of-lengt
 use lib.Seq.{sets, length-sets, sets-eq, take-length, getD-set-same, getD-set-other}
 use borrow.Author.Count.{below-more}
 use borrow.Rule.Slice.PartMut.{midOf, putMid, mid-len, post-is}
-use borrow.Table.Elements.{map-app, length-take-le}
+use borrow.Table.Elements.{map-app}
 use Rattle.numbers.specs.Below.{those}
 use Rattle.numbers.specs.Lent.{Puts}
 use Rattle.numbers.proofs.Below.{those-length}
