@@ -11,7 +11,7 @@ use lib.ListN.{length, take, drop}
 use lib.Pow.{pow-mono}
 use borrow.Author.Tests.{ltb-false, eqb-true, not-false}
 use Rattle.cube.specs.Words.{rowsOf, prime, essential, primesOf, essentialsOf}
-use Rattle.cube.specs.Calls.{widest, badWidth, badLength, unequalLengths, mostRows, tooManyRows, Condition, when, firstOf, tableConditions, listConditions, Answer, refuses, gives, answered, written, Listed}
+use Rattle.cube.specs.Calls.{widest, badWidth, badLength, unequalLengths, mostRows, tooManyRows, badRow, Condition, when, firstOf, tableConditions, listConditions, Answer, refuses, gives, answered, written, Listed}
 use Rattle.cube.specs.declared.Counted.{Counted}
 use Rattle.cube.specs.declared.Counted.the-variants.{Count, Refused}
 use Rattle.numbers.specs.Lent.{Puts}
@@ -142,6 +142,7 @@ module _ (n : ℕ) (t : List ℕ) (b : Bool) where
 pub record AcceptedList (n : ℕ) (vs ws : List ℕ) : Type 0 where
   pub equal : length vs ≡ length ws
   pub few : length (rowsOf vs ws) ≤ mostRows
+  pub formed : badRow n (rowsOf vs ws) ≡ false
 
 pub accepted-list : (n : ℕ) (vs ws : List ℕ) → firstOf (listConditions n vs ws) ≡ 0 → AcceptedList n vs ws
 accepted-list n vs ws e =
@@ -151,6 +152,7 @@ accepted-list n vs ws e =
     record {
       equal = eqb-true (length vs) (length ws) (not-false (eqb (length vs) (length ws)) (a .0));
       few = ltb-false mostRows (length rs) (b .0);
+      formed = none-first (badRow n rs) 6 _ (b .1) .0;
     }
 
 -- ---- answers
@@ -185,17 +187,20 @@ listed-number {refusal = refusal} {list = list} k p = answered-refuses k refusal
 
 -- where it answers a count, nothing refuses, and the list is in the first places, as many as the count
 module _ {A : Type 0} {refusal : ℕ} {list old new : List A} {k : ℕ} (p : Listed refusal list old new (Count k)) where
-  none-refuses : refusal ≡ 0
+  pub none-refuses : refusal ≡ 0
   none-refuses = answered-gives refusal k (length list) (p .answer) .0
 
   stands : new ≡ list ++ drop (length list) old
   stands = p .places ∙ ap (λ (i : ℕ). written i list old) none-refuses
 
+  pub listed-count : k ≡ length list
+  listed-count = answered-gives refusal k (length list) (p .answer) .1
+
   pub listed-front : take k new ≡ list
-  listed-front = front-is list old (answered-gives refusal k (length list) (p .answer) .1) stands
+  listed-front = front-is list old listed-count stands
 
   pub listed-behind : drop k new ≡ drop k old
-  listed-behind = front-behind list old (answered-gives refusal k (length list) (p .answer) .1) stands
+  listed-behind = front-behind list old listed-count stands
 
 -- where nothing refuses, it answers a count
 pub listed-counts : {A : Type 0} {refusal : ℕ} {list old new : List A} (r : Counted) → refusal ≡ 0 → Listed refusal list old new r → (k : ℕ) × (r ≡ Count k)

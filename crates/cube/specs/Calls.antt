@@ -51,6 +51,10 @@ badRow n rs = not (allFormed n rs)
 abbrev pub badCube : ℕ → ℕ → Bool
 badCube n q = leb (3 ^ n) q
 
+-- "10, file under 2 bytes or not 2 + 2 × count long": a file of this many bytes, of which the header takes some and the list asks for so many in all
+abbrev pub badFile : ℕ → ℕ → ℕ → Bool
+badFile bytes header needed = ltb bytes header || not (eqb bytes needed)
+
 -- a condition with its number
 pub record Condition : Type 0 where
   pub holds : Bool
