@@ -37,7 +37,7 @@
  *
  * A negative answer is a refusal. It is minus one of these numbers, and then no lent byte is changed:
  *
- *   1   n is not 1 to 6
+ *   1   the width is not 1 to 6
  *   2   the table does not have 2^n cells
  *   3   a cell is above 2
  *   4   an array to be filled is too short
@@ -45,6 +45,7 @@
  *   6   there are more than 255 rows
  *   7   a row is not formed
  *   8   the cube number is 3^n or more
+ *  10   the list file has fewer than 2 bytes, or not the 2 + 2 * rows that its byte 1 asks for
  *
  * A call refuses for the numbers named with it and for nothing else. They are named in the order in
  * which they are tested: where several hold, the one named first is answered.
@@ -132,6 +133,16 @@ int32_t rows_check(size_t n, const uint8_t *table, size_t table_len, const uint8
  */
 int32_t rows_write(size_t n, const uint8_t *values, size_t values_len, const uint8_t *cares,
                    size_t cares_len, uint8_t *file, size_t file_len);
+
+/* The list of a list file, into the first places of values and cares: a row for each row of the file, in
+ * its order. What rows_write wrote comes back as it was, and writing what was read gives the same file.
+ *
+ * Answers 100000 * width + rows: width is answer / 100000, rows is answer % 100000, at most 255.
+ * Refuses 10, 1, 7, then 4 when values_len or cares_len is below rows. Here 1 is about byte 0 of the
+ * file, which is its width.
+ */
+int32_t rows_read(const uint8_t *file, size_t file_len, uint8_t *values, size_t values_len, uint8_t *cares,
+                  size_t cares_len);
 
 #ifdef __cplusplus
 }

@@ -16,7 +16,8 @@ use Rattle.cube.proofs.Lists.{rows-length}
 use Rattle.cells.specs.Cells.{cellsRefuses}
 use Rattle.primes.specs.Primes.{primesRefuses}
 use Rattle.chart.specs.Rows.{chartOf}
-use Rattle.listfile.specs.Write.{fileOf, fileLength, writeRefuses}
+use Rattle.listfile.specs.File.{oneByteCount, fileLength, fileOf}
+use Rattle.listfile.specs.Write.{writeRefuses}
 use Rattle.listfile.proofs.Theorems.{file-length}
 use Rattle.installer.specs.Numbers.{countNumber, readCount, ListedForC}
 use Rattle.installer.specs.Steps.{FewCounted}
@@ -39,9 +40,9 @@ module _ (n : ℕ) (t : List ℕ) (places : ℕ) (e : primesRefuses n t places �
   pub few-essentials : length (essentialsOf n t) < 2 ^ 31
   few-essentials = few-cubes (length (essentialsOf n t)) (essentials-most n t)
 
-pub few-bytes : (n : ℕ) (vs ws : List ℕ) (places : ℕ) → writeRefuses n vs ws places ≡ 0 → length (fileOf n vs ws) < 2 ^ 31
+pub few-bytes : (n : ℕ) (vs ws : List ℕ) (places : ℕ) → writeRefuses oneByteCount n vs ws places ≡ 0 → length (fileOf oneByteCount n vs ws) < 2 ^ 31
 few-bytes n vs ws places e =
-    let past-list = when (short places (fileLength (length (rowsOf vs ws)))) 4 ∷ [] in
+    let past-list = when (short places (fileLength oneByteCount (length (rowsOf vs ws)))) 4 ∷ [] in
     let list = accepted-list n vs ws (none-in-front (listConditions n vs ws) past-list (none-first (badWidth n) 0 _ e .1)) in
     omega (arith, file-length n vs ws (list .equal), rows-length vs ws (list .equal), list .few)
 

@@ -1,5 +1,6 @@
--- Numbers that C gets as 32 bits, and what is read off them: counts, totals and codes.
+-- Numbers that C gets as 32 bits, and what is read off them: counts, totals, codes, a width with a row count.
 pub mod Signed
 pub mod Counts
 pub mod Totals
 pub mod Codes
+pub mod Headers

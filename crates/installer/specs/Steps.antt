@@ -1,10 +1,12 @@
 -- What only the proofs of the functions for C need: an answer whose number fits the 32 bits that C gets. Assumes nothing.
 use Prim.Native.Nat.{_*_, _^_, _<_, _≤_}
-use Rattle.cube.specs.Calls.{widest}
+use Rattle.cube.specs.Calls.{widest, mostRows}
 use Rattle.cube.specs.declared.Counted.{Counted}
 use Rattle.cube.specs.declared.Counted.the-variants as counted
 use Rattle.plan.specs.declared.Planned.{Planned}
 use Rattle.plan.specs.declared.Planned.the-variants as planned
+use Rattle.listfile.specs.declared.ReadBack.{ReadBack}
+use Rattle.listfile.specs.declared.ReadBack.the-variants as readback
 
 -- a count below 2^31
 abbrev pub FewCounted : Counted → Type 0
@@ -15,3 +17,8 @@ FewCounted (counted.Refused k) = Unit
 abbrev pub FewTotals : Planned → Type 0
 FewTotals (planned.Rows r b) = (r ≤ 2 ^ widest) × (b ≤ 2 ^ widest * widest)
 FewTotals (planned.Refused k) = Unit
+
+-- a width and a number of rows that are in range
+abbrev pub FewRows : ReadBack → Type 0
+FewRows (readback.List n rows) = (n ≤ widest) × (rows ≤ mostRows)
+FewRows (readback.Refused k) = Unit

@@ -6,6 +6,7 @@
 use chart::ChartRow;
 use checking::Checked;
 use cube::Counted;
+use listfile::ReadBack;
 use plan::Planned;
 use spelling::Spelled;
 ghost use mathlib.Core.Path.{_≡_};
@@ -18,9 +19,11 @@ ghost use Rattle.chart.specs.Rows.{chartOf};
 ghost use Rattle.spelling.specs.Spell.{spellOf};
 ghost use Rattle.plan.specs.Plan.{planAnswer};
 ghost use Rattle.checking.specs.Check.{checkAnswer, checkOf};
-ghost use Rattle.listfile.specs.Write.{fileOf, writeRefuses};
-ghost use Rattle.installer.specs.Numbers.{minus, countNumber, planNumber, checkNumber, SpellsForC, ListedForC, PlansForC};
-ghost use Rattle.installer.specs.Steps.{FewCounted, FewTotals};
+ghost use Rattle.listfile.specs.File.{oneByteCount, fileOf};
+ghost use Rattle.listfile.specs.Write.{writeRefuses};
+ghost use Rattle.listfile.specs.Read.{readAnswer};
+ghost use Rattle.installer.specs.Numbers.{minus, countNumber, planNumber, checkNumber, headerNumber, SpellsForC, ListedForC, PlansForC, ReadsForC};
+ghost use Rattle.installer.specs.Steps.{FewCounted, FewTotals, FewRows};
 
 // Minus the number of a refusal.
 fn refusal(k: u8) -> i32
@@ -60,6 +63,17 @@ fn check_number(answer: Checked) -> i32
         Checked::Missed(code) => (1 + code as u32) as i32,
         Checked::Stray(code) => (257 + code as u32) as i32,
         Checked::Refused(k) => refusal(k),
+    }
+}
+
+// The number of Read's answer.
+fn read_number(answer: ReadBack) -> i32
+    requires { ⌜ FewRows answer ⌝ }
+    ensures { λ r. ⌜ r ≡ headerNumber (readAnswer answer) ⌝ }
+{
+    match answer {
+        ReadBack::List { width, rows } => (100000 * width + rows) as i32,
+        ReadBack::Refused(k) => refusal(k),
     }
 }
 
@@ -132,8 +146,16 @@ pub extern "C" fn rows_check(n: usize, table: &[u8], values: &[u8], cares: &[u8]
 // Write for C: the length of the list file, or minus the number of the refusal; the file goes into the first bytes.
 #[no_mangle]
 pub extern "C" fn rows_write(n: usize, values: &[u8], cares: &[u8], file: &mut [u8]) -> i32
-    ensures { λ r. ⌜ ListedForC (writeRefuses n (now (values .entry)) (now (cares .entry)) (length (now (file .entry))))
-        (fileOf n (now (values .entry)) (now (cares .entry))) (now (file .entry)) (now (file .exit)) r ⌝ }
+    ensures { λ r. ⌜ ListedForC (writeRefuses oneByteCount n (now (values .entry)) (now (cares .entry)) (length (now (file .entry))))
+        (fileOf oneByteCount n (now (values .entry)) (now (cares .entry))) (now (file .entry)) (now (file .exit)) r ⌝ }
 {
     count_number(listfile::write(n, values, cares, file))
+}
+
+// Read for C: 100,000 × width + rows of the list file, or minus the number of the refusal; its rows go into the first places.
+#[no_mangle]
+pub extern "C" fn rows_read(file: &[u8], values: &mut [u8], cares: &mut [u8]) -> i32
+    ensures { λ r. ⌜ ReadsForC (now (file .entry)) (now (values .entry)) (now (cares .entry)) (now (values .exit)) (now (cares .exit)) r ⌝ }
+{
+    read_number(listfile::read(file, values, cares))
 }

@@ -1,3 +1,5 @@
--- The file by positions, and the wrong refusals that the promise shuts out.
+-- The file by positions, the parts of a file, the round trips, and the wrong answers that the promises shut out.
 pub mod Theorems
+pub mod Files
+pub mod RoundTrips
 pub mod Refuted

@@ -9,14 +9,14 @@ use lib.Seq.{sets, length-sets}
 use borrow.Author.Needs.{needs}
 use borrow.Rule.Slice.PartMut.{midOf, putMid}
 use Rattle.numbers.proofs.Lent.{sets-append, put-copied}
-use Rattle.listfile.specs.Write.{header, headerLength, fileOf}
+use Rattle.listfile.specs.File.{oneByteCount, fileOf}
 use Rattle.listfile.specs.Steps.{Writable}
 use Rattle.listfile.proofs.put_file.Statement.{statement}
 use Rattle.listfile.proofs.put_file.Tie as tie
 
 -- where the cares begin, and where the file ends
 abbrev behind : List ℕ → ℕ
-behind vs = headerLength + length vs
+behind vs = oneByteCount .size + length vs
 
 abbrev end : List ℕ → ℕ
 end vs = behind vs + length vs
@@ -26,17 +26,17 @@ abbrev Copied : ℕ → ℕ → List ℕ → List ℕ → List ℕ → Type 0
 Copied a e buffer src part = part ≡ take (length src) src ++ drop (length src) (midOf a (e - a) buffer)
 
 module _ (n : ℕ) (vs ws old : List ℕ) (f : Writable n vs ws old) where
-  module _ (begun part : List ℕ) (begun-is : begun ≡ sets old 0 (header n (length vs))) (copied : Copied headerLength (behind vs) begun vs part) where
-    with-values : putMid headerLength (behind vs - headerLength) begun part ≡ sets old 0 (header n (length vs) ++ vs)
+  module _ (begun part : List ℕ) (begun-is : begun ≡ sets old 0 (oneByteCount .bytes n (length vs))) (copied : Copied (oneByteCount .size) (behind vs) begun vs part) where
+    with-values : putMid (oneByteCount .size) (behind vs - oneByteCount .size) begun part ≡ sets old 0 (oneByteCount .bytes n (length vs) ++ vs)
     with-values =
-        put-copied headerLength (behind vs) begun vs part refl (omega (arith, f .room, ap length begun-is ∙ length-sets old 0 (header n (length vs)))) copied
-        ∙ ap (λ (l : List ℕ). sets l headerLength vs) begun-is ∙ sets-append old 0 (header n (length vs)) vs
+        put-copied (oneByteCount .size) (behind vs) begun vs part refl (omega (arith, f .room, ap length begun-is ∙ length-sets old 0 (oneByteCount .bytes n (length vs)))) copied
+        ∙ ap (λ (l : List ℕ). sets l (oneByteCount .size) vs) begun-is ∙ sets-append old 0 (oneByteCount .bytes n (length vs)) vs
 
-  with-cares : (valued part : List ℕ) → valued ≡ sets old 0 (header n (length vs) ++ vs) → Copied (behind vs) (end vs) valued ws part
-      → putMid (behind vs) (end vs - behind vs) valued part ≡ sets old 0 (fileOf n vs ws)
+  with-cares : (valued part : List ℕ) → valued ≡ sets old 0 (oneByteCount .bytes n (length vs) ++ vs) → Copied (behind vs) (end vs) valued ws part
+      → putMid (behind vs) (end vs - behind vs) valued part ≡ sets old 0 (fileOf oneByteCount n vs ws)
   unfolding fileOf
   with-cares valued part valued-is copied =
-      let all : List ℕ = header n (length vs) ++ vs in
+      let all : List ℕ = oneByteCount .bytes n (length vs) ++ vs in
       let at : behind vs ≡ 0 + length all = omega arith in
       put-copied (behind vs) (end vs) valued ws part (omega (arith, f .equal)) (omega (arith, f .room, ap length valued-is ∙ length-sets old 0 all)) copied
       ∙ ap (λ (l : List ℕ). sets l (behind vs) ws) valued-is ∙ ap (λ (i : ℕ). sets (sets old 0 all) i ws) at ∙ sets-append old 0 all ws

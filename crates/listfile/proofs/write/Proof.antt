@@ -9,12 +9,13 @@ use lib.Seq.{sets}
 use borrow.Author.Needs.{needs}
 use borrow.Author.Tests.{lt-ltb, le-ltb}
 use Rattle.cube.specs.Words.{rowsOf}
-use Rattle.cube.specs.Calls.{badWidth, short, mostRows, Condition, when, firstOf, listConditions, Listed}
+use Rattle.cube.specs.Calls.{badWidth, short, mostRows, Condition, when, firstOf, listConditions}
 use Rattle.cube.specs.declared.Counted.{Counted}
 use Rattle.cube.specs.declared.Counted.the-variants.{Count, Refused}
 use Rattle.cube.proofs.Calls.{width-to, first-holds, first-passes, conditions-refuse, conditions-pass, AcceptedList, accepted-list, listed-refused, listed-done}
 use Rattle.cube.proofs.Lists.{rows-length}
-use Rattle.listfile.specs.Write.{fileOf, fileLength, writeRefuses}
+use Rattle.listfile.specs.File.{oneByteCount, fileLength, fileOf}
+use Rattle.listfile.specs.Write.{writeRefuses, Writes}
 use Rattle.listfile.specs.Steps.{Writable}
 use Rattle.listfile.proofs.Theorems.{file-length}
 use Rattle.listfile.proofs.write.Statement.{statement}
@@ -22,10 +23,10 @@ use Rattle.listfile.proofs.write.Tie as tie
 
 module _ (n : ℕ) (vs ws old : List ℕ) where
   abbrev Ends : List ℕ → Counted → Type 0
-  Ends new r = Listed (writeRefuses n vs ws (length old)) (fileOf n vs ws) old new r
+  Ends new r = Writes oneByteCount n vs ws old new r
 
   abbrev past-list : List Condition
-  past-list = when (short (length old) (fileLength (length (rowsOf vs ws)))) 4 ∷ []
+  past-list = when (short (length old) (fileLength oneByteCount (length (rowsOf vs ws)))) 4 ∷ []
 
   abbrev past-width : List Condition
   past-width = listConditions n vs ws ++ past-list
@@ -49,27 +50,27 @@ module _ (n : ℕ) (vs ws old : List ℕ) where
       few : length vs ≤ mostRows
       few = subst (λ (i : ℕ). i ≤ mostRows) counted (list .few)
 
-      left : writeRefuses n vs ws (length old) ≡ firstOf past-list
+      left : writeRefuses oneByteCount n vs ws (length old) ≡ firstOf past-list
       left = first-passes (badWidth n) 1 past-width good ∙ conditions-pass (listConditions n vs ws) past-list tt e
 
-      module _ (m : ℕ) (m-is : m ≡ fileLength (length vs)) where
-        needed : m ≡ fileLength (length (rowsOf vs ws))
-        needed = m-is ∙ ap fileLength (sym counted)
+      module _ (m : ℕ) (m-is : m ≡ fileLength oneByteCount (length vs)) where
+        needed : m ≡ fileLength oneByteCount (length (rowsOf vs ws))
+        needed = m-is ∙ ap (fileLength oneByteCount) (sym counted)
 
         small : length old < m → Ends old (Refused 4)
         small h =
-            listed-refused 3 (left ∙ first-holds (short (length old) (fileLength (length (rowsOf vs ws)))) 4 [] (lt-ltb _ _ (subst (λ (i : ℕ). length old < i) needed h)))
+            listed-refused 3 (left ∙ first-holds (short (length old) (fileLength oneByteCount (length (rowsOf vs ws)))) 4 [] (lt-ltb _ _ (subst (λ (i : ℕ). length old < i) needed h)))
 
         module _ (h : m ≤ length old) where
           fits : Writable n vs ws old
           fits = record { width = width-to n good; equal = list .equal; few = few; room = subst (λ (i : ℕ). i ≤ length old) m-is h }
 
-          done : (new : List ℕ) → new ≡ sets old 0 (fileOf n vs ws) → Ends new (Count m)
+          done : (new : List ℕ) → new ≡ sets old 0 (fileOf oneByteCount n vs ws) → Ends new (Count m)
           done new new-is =
-              let long : m ≡ length (fileOf n vs ws) = m-is ∙ sym (file-length n vs ws (list .equal)) in
+              let long : m ≡ length (fileOf oneByteCount n vs ws) = m-is ∙ sym (file-length n vs ws (list .equal)) in
               listed-done
-              (left ∙ first-passes (short (length old) (fileLength (length (rowsOf vs ws)))) 4 [] (le-ltb _ _ (subst (λ (i : ℕ). i ≤ length old) needed h)))
-              (record { behind = long ∙ sym (zero-add (length (fileOf n vs ws))); places = new-is }) (subst (λ (i : ℕ). i ≤ length old) long h)
+              (left ∙ first-passes (short (length old) (fileLength oneByteCount (length (rowsOf vs ws)))) 4 [] (le-ltb _ _ (subst (λ (i : ℕ). i ≤ length old) needed h)))
+              (record { behind = long ∙ sym (zero-add (length (fileOf oneByteCount n vs ws))); places = new-is }) (subst (λ (i : ℕ). i ≤ length old) long h)
 
 good-at : (c : tie.Else1) → badWidth (c .before .before .before .before .before .args .n) ≡ false
 good-at c = sym (c .before .bad-width .ensures) ∙ c .if1 .left
