@@ -1,7 +1,7 @@
 /* rows.h: the row builder for C. It makes the rows by which a switch chip picks packet marks.
  *
  * Link with libinstaller.a, which `rt staticlib installer` writes. Of the C library it uses memcpy,
- * memmove, memset and memcmp at most. examples/install.c is a client to copy.
+ * memmove, memset and memcmp at most. examples/install.c and examples/read.c are clients to copy.
  *
  * Words
  *

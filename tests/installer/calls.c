@@ -43,6 +43,17 @@ static int refuses_list(size_t n, const uint8_t *values, size_t values_len, cons
     return 0;
 }
 
+/* A list file, in the order of document 02: byte 0 is the width, byte 1 the number of rows, then all values, then all cares. */
+static int refuses_file(const uint8_t *file, size_t file_len) {
+    if (file_len < 2 || file_len != 2 + 2 * (size_t)file[1]) {
+        return 10;
+    }
+    if (refuses_width(file[0])) {
+        return 1;
+    }
+    return refuses_list(file[0], file + 2, file[1], file + 2 + file[1], file[1]);
+}
+
 /* Bytes as text, for a failure: a digit each, `+` above 9. */
 static const char *text(const uint8_t *bytes, size_t len) {
     static char shown[MOST_BYTES + 1];
@@ -196,5 +207,23 @@ int32_t try_write(size_t n, const uint8_t *list_values, size_t values_len, const
     int32_t want = k ? -k : (int32_t)used;
     expect(answer == want && right, "rows_write(%zu, %zu values, %zu cares, %zu bytes): %d, expected %d; lent memory is %s", n, values_len, cares_len, file_len,
            answer, want, word(right));
+    return answer;
+}
+
+int32_t try_read(const uint8_t *list_file, size_t file_len, size_t values_len, size_t cares_len) {
+    uint8_t *file = lend(0, list_file, file_len), *values = lend_random(1, values_len), *cares = lend_random(2, cares_len);
+    int k = refuses_file(list_file, file_len);
+    size_t rows = k ? 0 : list_file[1];
+    k = k ? k : values_len < rows || cares_len < rows ? 4 : 0;
+    calling = "rows_read";
+    int32_t answer = rows_read(file, file_len, values, values_len, cares, cares_len);
+    size_t used = k ? 0 : rows;
+    int right = kept(0, 0) && kept(1, used) && kept(2, used);
+    for (size_t i = 0; i < used; i++) {
+        right = right && values[i] == list_file[2 + i] && cares[i] == list_file[2 + rows + i];
+    }
+    int32_t want = k ? -k : 100000 * list_file[0] + (int32_t)rows;
+    expect(answer == want && right, "rows_read(%zu bytes, %zu and %zu places): %d, expected %d; lent memory is %s", file_len, values_len, cares_len, answer,
+           want, word(right));
     return answer;
 }

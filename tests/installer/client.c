@@ -1,5 +1,6 @@
-/* A client of the library as the installer would write it. It tries every edge of document 01 through C. Each answer, and every byte of lent memory, is
- * compared with a few lines of C that share no code with the product (../meanings.c). Prints each failure, and at the end 'N passed, 0 failed'. */
+/* A client of the library as the installer would write it. It tries every edge of document 01, and of Read in document 02, through C. Each answer, and every
+ * byte of lent memory, is compared with a few lines of C that share no code with the product (../meanings.c). Prints each failure, and at the end
+ * 'N passed, 0 failed'. */
 #include <stdio.h>
 
 #include "client.h"
@@ -33,6 +34,11 @@ int main(void) {
     planned_lists();
     refusals_of_check();
     refusals_of_write();
+    every_small_file();
+    every_row_of_a_file();
+    random_files();
+    refusals_of_read();
+    round_trips();
     printf("%ld passed, %ld failed\n", passed, failed);
     return failed != 0;
 }

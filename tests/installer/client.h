@@ -25,7 +25,8 @@ void *lend_random(size_t which, size_t bytes);
 /* Whether everything but the first `used` bytes of that array is as it was lent. */
 int kept(size_t which, size_t used);
 
-/* calls.c: one call each, whose answer and lent memory are compared with what document 01 says. They return what the call returned. */
+/* calls.c: one call each, whose answer and lent memory are compared with what document 01 says, and document 02 of Read. They return what the call
+ * returned. */
 int32_t try_spell(size_t n, size_t cube);
 int32_t try_cells(size_t n, size_t cube, size_t codes_len);
 int32_t try_primes(size_t n, const uint8_t *table, size_t table_len, size_t cubes_len);
@@ -34,6 +35,7 @@ int32_t try_essentials(size_t n, const uint8_t *table, size_t table_len, size_t 
 int32_t try_plan(size_t n, const uint8_t *table, size_t table_len, size_t values_len, size_t cares_len);
 int32_t try_check(size_t n, const uint8_t *table, size_t table_len, const uint8_t *values, size_t values_len, const uint8_t *cares, size_t cares_len);
 int32_t try_write(size_t n, const uint8_t *values, size_t values_len, const uint8_t *cares, size_t cares_len, size_t file_len);
+int32_t try_read(const uint8_t *file, size_t file_len, size_t values_len, size_t cares_len);
 
 /* client.c: the widths 1 to 6, then numbers that are not widths. */
 extern const size_t widths[];
@@ -43,10 +45,14 @@ extern const size_t width_count;
 size_t codes(size_t n);
 size_t cubes(size_t n);
 
+/* lists.c: a random row that is formed, and one that is not; of width 6 where the number is not a width. */
+struct row random_row(size_t n);
+struct row damaged_row(size_t n);
+
 #define LENGTH(array) (sizeof(array) / sizeof((array)[0]))
 
-/* What is tried. cubes.c: Spell and Cells. tables.c: Primes, Chart, Essentials and Plan. lists.c: Check and Write. edges.c: the sentences of "Codes at the edge"
- * and the cases a to j, by their numbers in document 01, and very long arrays. */
+/* What is tried. cubes.c: Spell and Cells. tables.c: Primes, Chart, Essentials and Plan. lists.c: Check and Write. files.c: Read.
+ * edges.c: the sentences of "Codes at the edge" and the cases a to j, by their numbers in document 01, and very long arrays. */
 void every_cube(void);
 void places_for_codes(void);
 void every_small_table(void);
@@ -59,6 +65,11 @@ void random_lists(void);
 void planned_lists(void);
 void refusals_of_check(void);
 void refusals_of_write(void);
+void every_small_file(void);
+void every_row_of_a_file(void);
+void random_files(void);
+void refusals_of_read(void);
+void round_trips(void);
 void edges(void);
 void cases(void);
 void long_arrays(void);

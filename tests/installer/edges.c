@@ -22,6 +22,7 @@ static void width_refused(size_t n, size_t cells) {
     answers(sentence, try_plan(n, wanted, cells, 300, 300), -1);
     answers(sentence, try_check(n, wanted, cells, rows, 1, rows, 1), -1);
     answers(sentence, try_write(n, rows, 1, rows, 1, 600), -1);
+    answers(sentence, try_read((uint8_t[]){(uint8_t)n, 1, 0, 0}, 4, 300, 300), -1);
 }
 
 /* Every call at a width that is accepted, with the least memory that will do. Every code is wanted: one row that tests nothing matches them. */
@@ -36,6 +37,7 @@ static void width_accepted(size_t n, size_t codes, size_t cubes) {
     answers(sentence, try_plan(n, wanted, codes, codes, codes), 10000);
     answers(sentence, try_check(n, wanted, codes, rows, 1, rows, 1), 0);
     answers(sentence, try_write(n, rows, 1, rows, 1, 4), 4);
+    answers(sentence, try_read((uint8_t[]){(uint8_t)n, 1, 0, 0}, 4, 1, 1), 100000 * (int32_t)n + 1);
 }
 
 /* A table that every call on a table refuses, or none does, with enough places. */
@@ -81,6 +83,52 @@ static void lists_at_the_edge(void) {
     answers("an empty list needs 2 bytes", try_write(6, values, 0, cares, 0, 1), -4);
 }
 
+/* Read of a list file at width 6, with just enough places: every row has value 0 and care 63, but for this one. */
+static int32_t read_with(size_t count, size_t i, uint8_t value, uint8_t care) {
+    uint8_t file[512] = {6, (uint8_t)count};
+    memset(file + 2 + count, 63, count);
+    file[2 + i] = value;
+    file[2 + count + i] = care;
+    return try_read(file, 2 + 2 * count, count, count);
+}
+
+static void row_of_a_file(size_t count, size_t i) {
+    answers("care 63 is formed", read_with(count, i, 63, 63), 600000 + (int32_t)count);
+    answers("care 64 is not formed", read_with(count, i, 0, 64), -7);
+    answers("a value outside care is not formed", read_with(count, i, 32, 31), -7);
+}
+
+static void files_at_the_edge(void) {
+    uint8_t file[600] = {6, 255};
+    answers("a file of 0 bytes refuses", try_read(file, 0, 300, 300), -10);
+    answers("a file of 1 byte refuses", try_read(file, 1, 300, 300), -10);
+    answers("255 rows are read from 512 bytes", try_read(file, 512, 255, 255), 600255);
+    answers("255 rows are read into longer arrays", try_read(file, 512, 256, 300), 600255);
+    answers("255 rows in 511 bytes refuse", try_read(file, 511, 255, 255), -10);
+    answers("255 rows in 513 bytes refuse", try_read(file, 513, 255, 255), -10);
+    answers("254 places for 255 values refuse", try_read(file, 512, 254, 255), -4);
+    answers("254 places for 255 cares refuse", try_read(file, 512, 255, 254), -4);
+    file[0] = 0;
+    answers("width byte 0 refuses", try_read(file, 512, 255, 255), -1);
+    file[0] = 7;
+    answers("width byte 7 refuses", try_read(file, 512, 255, 255), -1);
+    file[0] = 6;
+    file[1] = 0;
+    answers("an empty list is read", try_read(file, 2, 0, 0), 600000);
+    answers("an empty list in 3 bytes refuses", try_read(file, 3, 0, 0), -10);
+    file[0] = 1;
+    answers("an empty list is read", try_read(file, 2, 0, 0), 100000);
+    file[1] = 1;
+    answers("a row in 2 bytes refuses", try_read(file, 2, 1, 1), -10);
+    answers("a row in 3 bytes refuses", try_read(file, 3, 1, 1), -10);
+    answers("a row is read from 4 bytes", try_read(file, 4, 1, 1), 100001);
+    answers("no place for a value refuses", try_read(file, 4, 0, 1), -4);
+    answers("no place for a care refuses", try_read(file, 4, 1, 0), -4);
+    row_of_a_file(1, 0);
+    row_of_a_file(255, 0);
+    row_of_a_file(255, 254);
+}
+
 /* Each sentence of "Codes at the edge", for each call that it concerns. */
 void edges(void) {
     memset(wanted, 1, sizeof wanted);
@@ -96,6 +144,7 @@ void edges(void) {
     answers("Plan arrays of 64 pass", try_plan(6, wanted, 64, 64, 64), 10000);
     cells_at_the_edge();
     lists_at_the_edge();
+    files_at_the_edge();
 }
 
 struct example {
@@ -147,7 +196,7 @@ void long_arrays(void) {
         perror("mmap");
         exit(2);
     }
-    uint8_t *second = large + half, zeros[64] = {0}, file[300], other[64];
+    uint8_t *second = large + half, zeros[64] = {0}, file[300], other[64], one_row[] = {6, 1, 0, 0}, two_rows[] = {6, 2, 0, 0, 0, 0};
     uint16_t cubes[729];
     struct rows_chart_row chart[729];
     answers("2^32 + 64 cells", rows_primes(6, large, more + 64, cubes, 729), -2);
@@ -167,5 +216,11 @@ void long_arrays(void) {
     answers("2^32 + 1 places for values", rows_plan(6, wanted, 64, large, more + 1, other, 64), 10000);
     answers("2^32 + 1 places for cares", rows_plan(6, wanted, 64, other, 64, large, more + 1), 10000);
     answers("2^32 + 1 bytes for a file", rows_write(6, zeros, 1, rows, 1, large, more + 1), 4);
+    answers("2^32 + 1 places for what is read", rows_read(two_rows, 6, large, more + 1, other, 2), 600002);
+    answers("2^32 + 1 places for what is read", rows_read(two_rows, 6, other, 2, large, more + 1), 600002);
+    answers("2^32 + 1 places for what is read", rows_read(two_rows, 6, large, more + 1, second, more + 1), 600002);
+    memcpy(large, one_row, 4);
+    answers("a row in 4 bytes", rows_read(large, 4, file, 300, other, 64), 600001);
+    answers("a row in 2^32 + 4 bytes", rows_read(large, more + 4, file, 300, other, 64), -10);
     munmap(large, 2 * half);
 }

@@ -13,12 +13,11 @@ static void put(struct list *list, size_t i, struct row row) {
     list->cares[i] = row.care;
 }
 
-/* A random formed row. */
-static struct row random_row(size_t n) { return row_of(n, random_below(cubes(n))); }
+struct row random_row(size_t n) { return row_of(n < 1 || n > WIDEST ? WIDEST : n, random_below(cubes(n))); }
 
-/* A row that is not formed: its care is 2^n or more, or its value has a one outside care. */
-static struct row damaged_row(size_t n) {
-    struct row row = random_row(n < 1 || n > WIDEST ? WIDEST : n);
+/* Its care is 2^n or more, or its value has a one outside care. */
+struct row damaged_row(size_t n) {
+    struct row row = random_row(n);
     if (random_below(2)) {
         row.care = (uint8_t)(row.care | codes(n) << random_below(2));
     } else {
@@ -131,7 +130,7 @@ static const size_t lengths[][2] = {{0, 0}, {1, 1}, {255, 255}, {256, 256}, {300
 /* A random list, formed at the width or at 6, with a row that is not: none, the first, one in the middle or the last. */
 static void fill(size_t n, struct list *list, size_t rows, size_t damaged) {
     for (size_t i = 0; i < ROOM; i++) {
-        put(list, i, random_row(n < 1 || n > WIDEST ? WIDEST : n));
+        put(list, i, random_row(n));
     }
     if (damaged > 0 && rows > 0) {
         put(list, (rows - 1) * (damaged - 1) / 2, damaged_row(n));
