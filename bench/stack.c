@@ -62,6 +62,7 @@ static void *all_others(void *unused) {
         accept(rows_essentials(width, table, cells, cubes, MOST_CUBES));
         accept(rows_check(width, table, cells, values, MOST_ROWS, cares, MOST_ROWS));
         accept(rows_write(width, values, MOST_ROWS, cares, MOST_ROWS, file, sizeof file));
+        accept(rows_read(file, sizeof file, values, MOST_ROWS, cares, MOST_ROWS));
     }
     return unused;
 }

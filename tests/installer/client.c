@@ -13,9 +13,11 @@ const size_t widths[] = {
 };
 const size_t width_count = LENGTH(widths);
 
-size_t codes(size_t n) { return power(2, n < 1 || n > WIDEST ? WIDEST : n); }
+size_t width_or_6(size_t n) { return n < 1 || n > WIDEST ? WIDEST : n; }
 
-size_t cubes(size_t n) { return power(3, n < 1 || n > WIDEST ? WIDEST : n); }
+size_t codes(size_t n) { return power(2, width_or_6(n)); }
+
+size_t cubes(size_t n) { return power(3, width_or_6(n)); }
 
 int main(void) {
     setvbuf(stdout, NULL, _IOLBF, 0);

@@ -41,7 +41,8 @@ int32_t try_read(const uint8_t *file, size_t file_len, size_t values_len, size_t
 extern const size_t widths[];
 extern const size_t width_count;
 
-/* The codes and the cubes of a width; of width 6 where the number is not a width. */
+/* The number where it is a width, and 6 where it is not; the codes and the cubes of that width. */
+size_t width_or_6(size_t n);
 size_t codes(size_t n);
 size_t cubes(size_t n);
 

@@ -124,6 +124,10 @@ static void files_at_the_edge(void) {
     answers("a row is read from 4 bytes", try_read(file, 4, 1, 1), 100001);
     answers("no place for a value refuses", try_read(file, 4, 0, 1), -4);
     answers("no place for a care refuses", try_read(file, 4, 1, 0), -4);
+    answers("10 before 1", try_read((uint8_t[]){7}, 1, 0, 0), -10);
+    answers("10 before 1 and 7", try_read((uint8_t[]){7, 1, 0}, 3, 0, 0), -10);
+    answers("1 before 7 and 4", try_read((uint8_t[]){0, 1, 0, 64}, 4, 0, 0), -1);
+    answers("7 before 4", try_read((uint8_t[]){1, 1, 0, 2}, 4, 0, 0), -7);
     row_of_a_file(1, 0);
     row_of_a_file(255, 0);
     row_of_a_file(255, 254);

@@ -28,7 +28,7 @@ static void fill(uint8_t *file, size_t n, size_t rows, size_t damaged) {
 
 /* Every file of 0, 1 and 2 bytes. Of those of 3 bytes, which are all refused, the wrong answers are counted. */
 void every_small_file(void) {
-    uint8_t file[3] = {0}, value, care;
+    uint8_t file[3] = {0}, value = 0xa5, care = 0x5a;
     try_read(file, 0, 1, 1);
     for (unsigned width = 0; width < 256; width++) {
         int wrong = 0;
@@ -42,6 +42,7 @@ void every_small_file(void) {
                 wrong += rows_read(file, 3, &value, 1, &care, 1) != -10;
             }
         }
+        wrong += value != 0xa5 || care != 0x5a;
         expect(wrong == 0, "files of 3 bytes with width byte %u: %d wrong answers", width, wrong);
     }
 }

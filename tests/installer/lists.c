@@ -13,7 +13,7 @@ static void put(struct list *list, size_t i, struct row row) {
     list->cares[i] = row.care;
 }
 
-struct row random_row(size_t n) { return row_of(n < 1 || n > WIDEST ? WIDEST : n, random_below(cubes(n))); }
+struct row random_row(size_t n) { return row_of(width_or_6(n), random_below(cubes(n))); }
 
 /* Its care is 2^n or more, or its value has a one outside care. */
 struct row damaged_row(size_t n) {

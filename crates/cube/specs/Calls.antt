@@ -1,4 +1,4 @@
--- What the calls of document 01 share: the numbers of refusals with their conditions, an answer, and what is left in a lent place.
+-- What the calls share: the numbers of refusals with their conditions, an answer, and what is left in a lent place.
 -- The greatest width and the most rows of a list are given here once. Assumes nothing.
 use mathlib.Core.Path.{_≡_}
 use Prim.Native.Nat.{ℕ, zero, suc, _^_}
@@ -51,7 +51,7 @@ badRow n rs = not (allFormed n rs)
 abbrev pub badCube : ℕ → ℕ → Bool
 badCube n q = leb (3 ^ n) q
 
--- "10, file under 2 bytes or not 2 + 2 × count long": a file of this many bytes, of which the header takes some and the list asks for so many in all
+-- "10, file under 2 bytes or not 2 + 2 × count long": the bytes of a file, those that its header takes, and those that it should have
 abbrev pub badFile : ℕ → ℕ → ℕ → Bool
 badFile bytes header needed = ltb bytes header || not (eqb bytes needed)
 

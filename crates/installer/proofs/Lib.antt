@@ -3,4 +3,4 @@ pub mod Signed
 pub mod Counts
 pub mod Totals
 pub mod Codes
-pub mod Headers
+pub mod Widths

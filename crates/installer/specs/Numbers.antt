@@ -1,21 +1,20 @@
 -- "For the installer, which is in C: [..] Plan's C answer is 10,000 × rows + tested bits; Check's is 0 right, 1 + code missed, 257 + code stray; both
--- answer minus the number when they refuse." The other calls answer in the same way: Spell 0, Read 100,000 × width + count, and each call that writes a list
--- its count.
+-- answer minus the number when they refuse." The other calls answer in the same way: Spell 0, Read 100,000 × width + count, each of the rest a count.
 -- Assumes nothing.
 use mathlib.Core.Path.{_≡_}
 use mathlib.Core.Bool.{cond}
 use mathlib.Core.List.{List}
-use Prim.Native.Nat.{ℕ, zero, suc, _+_, _*_, _-_, _/_, _%_}
+use Prim.Native.Nat.{ℕ, zero, suc, _+_, _*_, _-_, _/_, _%_, _≤_}
 use lib.Dec.{ltb}
 use lib.IntN.{ℤ, pos, negsuc, negℤ}
 use Rattle.cube.specs.Words.{Row}
 use lib.ListN.{length}
-use Rattle.cube.specs.Calls.{Answer, refuses, gives, answered, written}
+use Rattle.cube.specs.Calls.{mostRows, Answer, refuses, gives, answered, written}
 use Rattle.plan.specs.Plan.{Totals, planAnswer, Plans}
 use Rattle.plan.specs.declared.Planned.{Planned}
 use Rattle.checking.specs.Check.{Verdict, right, missed, stray, checkOf}
 use Rattle.listfile.specs.File.{oneByteCount, valuesIn, caresIn}
-use Rattle.listfile.specs.Read.{readRefuses, Header, readOf}
+use Rattle.listfile.specs.Read.{readRefuses, WidthAndCount, readOf}
 
 -- "minus the number"
 abbrev pub minus : ℕ → ℤ
@@ -74,14 +73,14 @@ abbrev pub CheckRead : ℕ → List ℕ → List ℕ → List ℕ → Type 0
 CheckRead n t vs ws = readCheck (checkNumber (checkOf n t vs ws)) ≡ checkOf n t vs ws
 
 -- "width and count": 100,000 × width + count
-abbrev pub headerNumber : Answer Header → ℤ
-headerNumber (gives a) = pos (100000 * a .width + a .rows)
-headerNumber (refuses k) = minus k
+abbrev pub widthAndCountNumber : Answer WidthAndCount → ℤ
+widthAndCountNumber (gives a) = pos (100000 * a .width + a .count)
+widthAndCountNumber (refuses k) = minus k
 
 -- how the answer is read off the number: the width is number / 100,000, the count number % 100,000, and what is below 0 is minus a refusal's number
-abbrev pub readHeader : ℤ → Answer Header
-readHeader (pos k) = gives (record { width = k / 100000; rows = k % 100000 })
-readHeader (negsuc k) = refuses (suc k)
+abbrev pub readWidthAndCount : ℤ → Answer WidthAndCount
+readWidthAndCount (pos k) = gives (record { width = k / 100000; count = k % 100000 })
+readWidthAndCount (negsuc k) = refuses (suc k)
 
 -- What rows_spell promises: the number of Spell's answer, the two lent bytes, and that the answer can be read off the three.
 pub record SpellsForC (answer : Answer Row) (value care value′ care′ : ℕ) (r : ℤ) : Type 0 where
@@ -104,9 +103,11 @@ pub record PlansForC (n : ℕ) (t values cares values′ cares′ : List ℕ) (r
   pub number : r ≡ planNumber (planAnswer planned)
   pub read : readPlan r ≡ planAnswer planned
 
--- What rows_read promises, refused input included: the number of Read's answer, the two arrays, and that the answer can be read back from the number.
+-- What rows_read promises, refused input included: the number of Read's answer, the two arrays, that there are no more rows than a list may have, and that
+-- the answer can be read back from the number.
 pub record ReadsForC (file values cares values′ cares′ : List ℕ) (r : ℤ) : Type 0 where
-  pub number : r ≡ headerNumber (readOf oneByteCount file (length values) (length cares))
+  pub number : r ≡ widthAndCountNumber (readOf oneByteCount file (length values) (length cares))
   pub values-are : values′ ≡ written (readRefuses oneByteCount file (length values) (length cares)) (valuesIn oneByteCount file) values
   pub cares-are : cares′ ≡ written (readRefuses oneByteCount file (length values) (length cares)) (caresIn oneByteCount file) cares
-  pub read : readHeader r ≡ readOf oneByteCount file (length values) (length cares)
+  pub few : readRefuses oneByteCount file (length values) (length cares) ≡ 0 → oneByteCount .count file ≤ mostRows
+  pub read : readWidthAndCount r ≡ readOf oneByteCount file (length values) (length cares)

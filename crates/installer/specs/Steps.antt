@@ -18,7 +18,7 @@ abbrev pub FewTotals : Planned → Type 0
 FewTotals (planned.Rows r b) = (r ≤ 2 ^ widest) × (b ≤ 2 ^ widest * widest)
 FewTotals (planned.Refused k) = Unit
 
--- a width and a number of rows that are in range
+-- a width and a row count in range
 abbrev pub FewRows : ReadBack → Type 0
-FewRows (readback.List n rows) = (n ≤ widest) × (rows ≤ mostRows)
+FewRows (readback.List n count) = (n ≤ widest) × (count ≤ mostRows)
 FewRows (readback.Refused k) = Unit

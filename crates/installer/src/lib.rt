@@ -22,7 +22,7 @@ ghost use Rattle.checking.specs.Check.{checkAnswer, checkOf};
 ghost use Rattle.listfile.specs.File.{oneByteCount, fileOf};
 ghost use Rattle.listfile.specs.Write.{writeRefuses};
 ghost use Rattle.listfile.specs.Read.{readAnswer};
-ghost use Rattle.installer.specs.Numbers.{minus, countNumber, planNumber, checkNumber, headerNumber, SpellsForC, ListedForC, PlansForC, ReadsForC};
+ghost use Rattle.installer.specs.Numbers.{minus, countNumber, planNumber, checkNumber, widthAndCountNumber, SpellsForC, ListedForC, PlansForC, ReadsForC};
 ghost use Rattle.installer.specs.Steps.{FewCounted, FewTotals, FewRows};
 
 // Minus the number of a refusal.
@@ -69,10 +69,10 @@ fn check_number(answer: Checked) -> i32
 // The number of Read's answer.
 fn read_number(answer: ReadBack) -> i32
     requires { ⌜ FewRows answer ⌝ }
-    ensures { λ r. ⌜ r ≡ headerNumber (readAnswer answer) ⌝ }
+    ensures { λ r. ⌜ r ≡ widthAndCountNumber (readAnswer answer) ⌝ }
 {
     match answer {
-        ReadBack::List { width, rows } => (100000 * width + rows) as i32,
+        ReadBack::List { width, count } => (100000 * width + count) as i32,
         ReadBack::Refused(k) => refusal(k),
     }
 }
@@ -152,7 +152,7 @@ pub extern "C" fn rows_write(n: usize, values: &[u8], cares: &[u8], file: &mut [
     count_number(listfile::write(n, values, cares, file))
 }
 
-// Read for C: 100,000 × width + rows of the list file, or minus the number of the refusal; its rows go into the first places.
+// Read for C: 100,000 × width + count of the list file, or minus the number of the refusal; its rows go into the first places.
 #[no_mangle]
 pub extern "C" fn rows_read(file: &[u8], values: &mut [u8], cares: &mut [u8]) -> i32
     ensures { λ r. ⌜ ReadsForC (now (file .entry)) (now (values .entry)) (now (cares .entry)) (now (values .exit)) (now (cares .exit)) r ⌝ }

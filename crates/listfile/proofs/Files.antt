@@ -1,6 +1,6 @@
 -- The parts of a file: those of the file of a list are the list's arrays, and a whole file is made of its parts. What a file that is not refused has, what
 -- Read refuses, and what an answer of Read says. Assumes nothing.
-use mathlib.Core.Path.{_≡_, refl, sym, ap, ap₂, _∙_}
+use mathlib.Core.Path.{_≡_, sym, ap, ap₂, _∙_}
 use mathlib.Core.Bool.{Bool, true, false, not, _||_, or-true}
 use mathlib.Core.List.{List, [], _∷_, _++_}
 use Prim.Native.Nat.{ℕ, suc, _+_, _-_, _<_, _≤_}
@@ -14,7 +14,7 @@ use Rattle.numbers.proofs.Bools.{is-true, eqb-of}
 use Rattle.cube.specs.Calls.{badWidth, short, badRow, badFile, when, firstOf}
 use Rattle.cube.proofs.Calls.{neither, first-holds, first-passes, none-first, conditions-refuse, conditions-pass, none-in-front, answered-gives}
 use Rattle.listfile.specs.File.{Format, oneByteCount, fileLength, fileOf, widthIn, valuesIn, caresIn}
-use Rattle.listfile.specs.Read.{rowsIn, fileConditions, readRefuses, Header, headerOf, Reads}
+use Rattle.listfile.specs.Read.{rowsIn, wrongLength, fileConditions, readRefuses, WidthAndCount, widthAndCount, Reads}
 use Rattle.listfile.specs.Steps.{Whole}
 use Rattle.listfile.specs.declared.ReadBack.the-variants as readback
 
@@ -84,25 +84,28 @@ bad-short bytes header needed l = sym (ap (λ (b : Bool). b || not (eqb bytes ne
 pub bad-else : (bytes header needed : ℕ) → header ≤ bytes → not (eqb bytes needed) ≡ badFile bytes header needed
 bad-else bytes header needed l = sym (ap (λ (b : Bool). b || not (eqb bytes needed)) (le-ltb bytes header l))
 
-pub not-bad : (bytes header needed : ℕ) → badFile bytes header needed ≡ false → bytes ≡ needed
-not-bad bytes header needed e = eqb-true bytes needed (not-false (eqb bytes needed) (neither (ltb bytes header) (not (eqb bytes needed)) e .1))
+pub right-length : (format : Format) (file : List ℕ) → wrongLength format file ≡ false → Whole format file
+right-length format file e =
+    let needed = fileLength format (format .count file) in
+    eqb-true (length file) needed (not-false (eqb (length file) needed) (neither (ltb (length file) (format .size)) (not (eqb (length file) needed)) e .1))
 
-not-bad-of : (bytes header needed : ℕ) → header ≤ bytes → bytes ≡ needed → badFile bytes header needed ≡ false
-not-bad-of bytes header needed l e = sym (bad-else bytes header needed l) ∙ ap not (is-true (eqb bytes needed) (eqb-of bytes needed e))
+whole-right : (format : Format) (file : List ℕ) → Whole format file → wrongLength format file ≡ false
+whole-right format file whole =
+    let needed = fileLength format (format .count file) in
+    sym (bad-else (length file) (format .size) needed (omega (arith, whole))) ∙ ap not (is-true (eqb (length file) needed) (eqb-of (length file) needed whole))
 
 pub accepted-file : (format : Format) (file : List ℕ) → firstOf (fileConditions format file) ≡ 0 → AcceptedFile format file
 accepted-file format file e =
-    let a = none-first (badFile (length file) (format .size) (fileLength format (format .count file))) 9 _ e in
+    let a = none-first (wrongLength format file) 9 _ e in
     let b = none-first (badWidth (widthIn file)) 0 _ (a .1) in
     let c = none-first (badRow (widthIn file) (rowsIn format file)) 6 _ (b .1) in
-    record { whole = not-bad (length file) (format .size) (fileLength format (format .count file)) (a .0); width = b .0; formed = c .0 }
+    record { whole = right-length format file (a .0); width = b .0; formed = c .0 }
 
 -- and the other way round: such a file is not refused
 pub file-passes : (format : Format) (file : List ℕ) → AcceptedFile format file → firstOf (fileConditions format file) ≡ 0
 file-passes format file a =
-    let bad : badFile (length file) (format .size) (fileLength format (format .count file)) ≡ false = not-bad-of _ _ _ (omega (arith, a .whole)) (a .whole) in
     let rows = when (badRow (widthIn file) (rowsIn format file)) 7 ∷ [] in
-    first-passes (badFile (length file) (format .size) (fileLength format (format .count file))) 10 (when (badWidth (widthIn file)) 1 ∷ rows) bad
+    first-passes (wrongLength format file) 10 (when (badWidth (widthIn file)) 1 ∷ rows) (whole-right format file (a .whole))
     ∙ first-passes (badWidth (widthIn file)) 1 rows (a .width) ∙ first-passes (badRow (widthIn file) (rowsIn format file)) 7 [] (a .formed)
 
 -- ---- what Read refuses, after the file's conditions
@@ -135,13 +138,13 @@ module _ (format : Format) (file : List ℕ) (values cares : ℕ) where
 -- ---- an answer of Read
 
 -- a width and a count: nothing refuses, and they are the file's
-pub record Given (format : Format) (file values cares : List ℕ) (n rows : ℕ) : Type 0 where
+pub record Given (format : Format) (file values cares : List ℕ) (n count : ℕ) : Type 0 where
   pub refuses-none : readRefuses format file (length values) (length cares) ≡ 0
   pub width-is : n ≡ widthIn file
-  pub rows-is : rows ≡ format .count file
+  pub count-is : count ≡ format .count file
 
-pub read-gives : {format : Format} {file values cares values′ cares′ : List ℕ} {n rows : ℕ} → Reads format file values cares values′ cares′ (readback.List n rows)
-    → Given format file values cares n rows
-read-gives {format} {file} {values} {cares} {n = n} {rows} p =
-    let a = answered-gives (readRefuses format file (length values) (length cares)) (record { width = n; rows = rows }) (headerOf format file) (p .answer) in
-    record { refuses-none = a .0; width-is = ap (λ (x : Header). x .width) (a .1); rows-is = ap (λ (x : Header). x .rows) (a .1) }
+pub read-gives : {format : Format} {file values cares values′ cares′ : List ℕ} {n count : ℕ} → Reads format file values cares values′ cares′ (readback.List n count)
+    → Given format file values cares n count
+read-gives {format} {file} {values} {cares} {n = n} {count} p =
+    let a = answered-gives (readRefuses format file (length values) (length cares)) (record { width = n; count = count }) (widthAndCount format file) (p .answer) in
+    record { refuses-none = a .0; width-is = ap (λ (x : WidthAndCount). x .width) (a .1); count-is = ap (λ (x : WidthAndCount). x .count) (a .1) }

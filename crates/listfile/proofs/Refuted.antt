@@ -11,7 +11,7 @@ use Rattle.cube.specs.declared.Counted.the-variants.{Refused}
 use Rattle.cube.proofs.Calls.{answered-refuses, listed-number}
 use Rattle.listfile.specs.File.{oneByteCount}
 use Rattle.listfile.specs.Write.{Writes}
-use Rattle.listfile.specs.Read.{readRefuses, headerOf, Reads}
+use Rattle.listfile.specs.Read.{readRefuses, widthAndCount, Reads}
 use Rattle.listfile.specs.declared.ReadBack.{ReadBack}
 use Rattle.listfile.specs.declared.ReadBack.the-variants as readback
 use Rattle.listfile.proofs.Files.{read-gives}
@@ -41,7 +41,7 @@ module _ (old new : List ℕ) where
 
 number : {file values cares values′ cares′ : List ℕ} (k : ℕ) → Reads oneByteCount file values cares values′ cares′ (readback.Refused k)
     → readRefuses oneByteCount file (length values) (length cares) ≡ k
-number {file} {values} {cares} k p = answered-refuses k (readRefuses oneByteCount file (length values) (length cares)) (headerOf oneByteCount file) (p .answer) .0
+number {file} {values} {cares} k p = answered-refuses k (readRefuses oneByteCount file (length values) (length cares)) (widthAndCount oneByteCount file) (p .answer) .0
 
 module _ (values cares values′ cares′ : List ℕ) where
   -- 1 for a file of one byte, which is no width
@@ -58,8 +58,8 @@ module _ (values cares values′ cares′ : List ℕ) where
   four-before-a-row p = let z : _≡_ {A = ℕ} 7 4 = number 4 p in omega arith
 
   -- the empty list, for a file with a byte more
-  pub longer-file : (n rows : ℕ) → Reads oneByteCount (1 ∷ 0 ∷ 0 ∷ []) values cares values′ cares′ (readback.List n rows) → ⊥
-  longer-file n rows p = let z : _≡_ {A = ℕ} 10 0 = read-gives p .refuses-none in omega arith
+  pub longer-file : (n count : ℕ) → Reads oneByteCount (1 ∷ 0 ∷ 0 ∷ []) values cares values′ cares′ (readback.List n count) → ⊥
+  longer-file n count p = let z : _≡_ {A = ℕ} 10 0 = read-gives p .refuses-none in omega arith
 
 -- the second place written, where the file has one row
 pub place-past-count : (cares cares′ : List ℕ) → Reads oneByteCount (1 ∷ 1 ∷ 0 ∷ 0 ∷ []) (5 ∷ 5 ∷ []) cares (0 ∷ 0 ∷ []) cares′ (readback.List 1 1) → ⊥

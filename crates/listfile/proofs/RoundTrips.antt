@@ -1,23 +1,23 @@
 -- The round trips of `specs/Theorems.antt`: what the one call leaves, the other does not refuse, and the parts of a file are its list. Assumes nothing.
 use mathlib.Core.Path.{_≡_, refl, sym, ap, ap₂, _∙_, subst}
-use mathlib.Core.Bool.{Bool, false, not, _||_}
+use mathlib.Core.Bool.{Bool, false, not}
 use mathlib.Core.List.{List, [], _∷_, _++_}
-use Prim.Native.Nat.{ℕ, _+_, _≤_}
+use Prim.Native.Nat.{ℕ, _≤_}
 use native.Mathlib.Omega.{arith}
-use lib.Dec.{eqb, ltb, eqb-refl}
-use lib.ListN.{length, take, drop}
+use lib.Dec.{eqb}
+use lib.ListN.{length, take}
 use borrow.Author.Tests.{le-ltb}
 use Rattle.numbers.proofs.Bools.{is-true, eqb-of}
 use Rattle.numbers.proofs.Fronts.{front-is}
-use Rattle.cube.specs.Words.{Cover, rowsOf}
-use Rattle.cube.specs.Calls.{badWidth, short, unequalLengths, mostRows, tooManyRows, badRow, badFile, when, firstOf, listConditions, refuses, gives, answered, written}
+use Rattle.cube.specs.Words.{rowsOf}
+use Rattle.cube.specs.Calls.{badWidth, short, unequalLengths, mostRows, tooManyRows, badRow, when, firstOf, listConditions, gives, answered, written}
 use Rattle.cube.specs.declared.Counted.{Counted}
 use Rattle.cube.specs.declared.Counted.the-variants.{Count}
 use Rattle.cube.proofs.Calls.{none-first, first-passes, none-in-front, conditions-pass, AcceptedList, accepted-list, refuses-gives, same-value, none-refuses, listed-count, listed-front, listed-counts}
 use Rattle.cube.proofs.Lists.{rows-length}
 use Rattle.listfile.specs.File.{oneByteCount, fileLength, fileOf, widthIn, valuesIn, caresIn}
 use Rattle.listfile.specs.Write.{writeRefuses, Writes}
-use Rattle.listfile.specs.Read.{rowsIn, fileConditions, readRefuses, Header, headerOf, readAnswer, Reads}
+use Rattle.listfile.specs.Read.{rowsIn, readRefuses, WidthAndCount, widthAndCount, readAnswer, Reads}
 use Rattle.listfile.specs.Theorems.{ComesBack, WrittenComesBack, SameBytes, ReadIsWrittenAgain}
 use Rattle.listfile.specs.declared.ReadBack.{ReadBack}
 use Rattle.listfile.specs.declared.ReadBack.the-variants as readback
@@ -63,16 +63,16 @@ module _ (n : ℕ) (vs ws out : List ℕ) (e : writeRefuses oneByteCount n vs ws
 
     comes-back : (r : ReadBack) → Reads oneByteCount file values cares values′ cares′ r → ComesBack n vs ws values′ cares′ r
     comes-back r p = record {
-      answer = answers r (p .answer ∙ ap (λ (k : ℕ). answered k (headerOf oneByteCount file)) passes);
+      answer = answers r (p .answer ∙ ap (λ (k : ℕ). answered k (widthAndCount oneByteCount file)) passes);
       values = front-is vs values refl (p .values-are ∙ ap₂ (λ (k : ℕ) (l : List ℕ). written k l values) passes (values-in-file n vs ws));
       cares =
           front-is ws cares (list .equal) (p .cares-are ∙ ap₂ (λ (k : ℕ) (l : List ℕ). written k l cares) passes (cares-in-file n vs ws (list .equal)));
     }
       where
-        answers : (r : ReadBack) → readAnswer r ≡ gives (headerOf oneByteCount file) → r ≡ readback.List n (length vs)
+        answers : (r : ReadBack) → readAnswer r ≡ gives (widthAndCount oneByteCount file) → r ≡ readback.List n (length vs)
         answers (readback.List a b) h =
             let z = same-value _ _ h in
-            ap₂ readback.List (ap (λ (x : Header). x .width) z ∙ width-in-file) (ap (λ (x : Header). x .rows) z ∙ count-in-file)
+            ap₂ readback.List (ap (λ (x : WidthAndCount). x .width) z ∙ width-in-file) (ap (λ (x : WidthAndCount). x .count) z ∙ count-in-file)
         answers (readback.Refused k) h = absurd (refuses-gives k _ h)
 
 pub written-comes-back : WrittenComesBack
@@ -120,29 +120,29 @@ module _ (file : List ℕ) (few : oneByteCount .count file ≤ mostRows) (a : Ac
             let long : k ≡ length file = listed-count w′ ∙ ap length (file-of-parts file (a .whole)) in
             record { answer = e ∙ ap Count long; bytes = ap (λ (i : ℕ). take i out′) (sym long) ∙ listed-front w′ ∙ file-of-parts file (a .whole) }
 
-module _ (file values cares values′ cares′ : List ℕ) (n rows : ℕ) (p : Reads oneByteCount file values cares values′ cares′ (readback.List n rows)) where
+module _ (file values cares values′ cares′ : List ℕ) (n count : ℕ) (p : Reads oneByteCount file values cares values′ cares′ (readback.List n count)) where
   none : readRefuses oneByteCount file (length values) (length cares) ≡ 0
   none = read-gives p .refuses-none
 
   file-is : AcceptedFile oneByteCount file
   file-is = read-accepted oneByteCount file (length values) (length cares) none
 
-  values-read : take rows values′ ≡ valuesIn oneByteCount file
+  values-read : take count values′ ≡ valuesIn oneByteCount file
   values-read =
-      front-is (valuesIn oneByteCount file) values (read-gives p .rows-is ∙ sym (values-length oneByteCount file (file-is .whole)))
+      front-is (valuesIn oneByteCount file) values (read-gives p .count-is ∙ sym (values-length oneByteCount file (file-is .whole)))
       (p .values-are ∙ ap (λ (k : ℕ). written k (valuesIn oneByteCount file) values) none)
 
-  cares-read : take rows cares′ ≡ caresIn oneByteCount file
+  cares-read : take count cares′ ≡ caresIn oneByteCount file
   cares-read =
-      front-is (caresIn oneByteCount file) cares (read-gives p .rows-is ∙ sym (cares-length oneByteCount file (file-is .whole)))
+      front-is (caresIn oneByteCount file) cares (read-gives p .count-is ∙ sym (cares-length oneByteCount file (file-is .whole)))
       (p .cares-are ∙ ap (λ (k : ℕ). written k (caresIn oneByteCount file) cares) none)
 
-  again : (out out′ : List ℕ) (r : Counted) → length file ≤ length out → Writes oneByteCount n (take rows values′) (take rows cares′) out out′ r → SameBytes file out′ r
+  again : (out out′ : List ℕ) (r : Counted) → length file ≤ length out → Writes oneByteCount n (take count values′) (take count cares′) out out′ r → SameBytes file out′ r
   again out out′ r l w =
       same-bytes file (p .few none) file-is out out′ l r
       (subst (λ (k : ℕ). Writes oneByteCount k (valuesIn oneByteCount file) (caresIn oneByteCount file) out out′ r) (read-gives p .width-is)
       (subst (λ (l : List ℕ). Writes oneByteCount n (valuesIn oneByteCount file) l out out′ r) cares-read
-      (subst (λ (l : List ℕ). Writes oneByteCount n l (take rows cares′) out out′ r) values-read w)))
+      (subst (λ (l : List ℕ). Writes oneByteCount n l (take count cares′) out out′ r) values-read w)))
 
 pub read-is-written-again : ReadIsWrittenAgain
-read-is-written-again file values cares values′ cares′ n rows p out out′ r l w = again file values cares values′ cares′ n rows p out out′ r l w
+read-is-written-again file values cares values′ cares′ n count p out out′ r l w = again file values cares values′ cares′ n count p out out′ r l w

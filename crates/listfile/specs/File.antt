@@ -1,5 +1,5 @@
--- The list file: "Byte 0 width, byte 1 row count, then all values, then all cares." The definitions are for any format of what stands before the values;
--- `oneByteCount` is the one in use. Assumes nothing.
+-- The list file: "Byte 0 width, byte 1 row count, then all values, then all cares." The definitions are for any format of what stands before the values, with
+-- the width at byte 0; `oneByteCount` is the one in use. Assumes nothing.
 use Prim.Native.Nat.{ℕ, _+_, _*_}
 use mathlib.Core.List.{List, [], _∷_, _++_}
 use lib.ListN.{length, take, drop, getD}
@@ -17,7 +17,7 @@ pub record Format : Type 0 where
 abbrev pub oneByteCount : Format
 oneByteCount = record { size = 2; bytes = λ n rows. n ∷ rows ∷ []; count = λ file. getD file 1 0 }
 
--- "2 + 2 × rows"
+-- "2 + 2 × rows", at `oneByteCount`
 abbrev pub fileLength : Format → ℕ → ℕ
 fileLength format rows = format .size + 2 * rows
 

@@ -47,6 +47,6 @@ pub record SameBytes (file out′ : List ℕ) (r : Counted) : Type 0 where
 -- the count, gives the file, in any buffer of its length
 abbrev pub ReadIsWrittenAgain : Type 0
 ReadIsWrittenAgain =
-    (file values cares values′ cares′ : List ℕ) (n rows : ℕ) → Reads oneByteCount file values cares values′ cares′ (readback.List n rows)
+    (file values cares values′ cares′ : List ℕ) (n count : ℕ) → Reads oneByteCount file values cares values′ cares′ (readback.List n count)
     → (out out′ : List ℕ) (r : Counted) → length file ≤ length out
-    → Writes oneByteCount n (take rows values′) (take rows cares′) out out′ r → SameBytes file out′ r
+    → Writes oneByteCount n (take count values′) (take count cares′) out out′ r → SameBytes file out′ r

@@ -4,24 +4,24 @@
 //     listfile::write(4, &[8, 9], &[8, 13], &mut file)         // count 6: 04 02 08 09 08 0d
 //     let mut values = [0u8; 2];
 //     let mut cares = [0u8; 2];
-//     listfile::read(&file, &mut values, &mut cares)           // width 4, 2 rows: values 8 9, cares 8 13
+//     listfile::read(&file, &mut values, &mut cares)           // width 4, count 2: values 8 9, cares 8 13
 use cube::Counted;
 ghost use mathlib.Core.Path.{_≡_};
 ghost use Prim.Native.Nat.{_≤_};
 ghost use lib.ListN.{length};
 ghost use lib.Seq.{sets};
-ghost use Rattle.cube.specs.Calls.{widest, mostRows, badRow, badFile, firstOf, written};
+ghost use Rattle.cube.specs.Calls.{widest, mostRows, badRow, firstOf, written};
 ghost use Rattle.listfile.specs.File.{oneByteCount, fileLength, fileOf, widthIn, valuesIn, caresIn};
 ghost use Rattle.listfile.specs.Write.{Writes};
-ghost use Rattle.listfile.specs.Read.{rowsIn, fileConditions, Reads};
+ghost use Rattle.listfile.specs.Read.{rowsIn, wrongLength, fileConditions, Reads};
 ghost use Rattle.listfile.specs.Steps.{Writable, Whole, Readable};
 
 // The bytes before the values.
 const HEADER: usize = 2;
 
-// The width and the number of rows of the list that was read, or the number of the refusal.
+// Width and count of the list that was read, or the number of the refusal.
 pub enum ReadBack {
-    List { width: usize, rows: usize },
+    List { width: usize, count: usize },
     Refused(u8),
 }
 
@@ -91,8 +91,8 @@ pub fn write(n: usize, values: &[u8], cares: &[u8], out: &mut [u8]) -> Counted
 }
 
 // Whether a file is shorter than its header, or not as long as its row count asks.
-fn bad_file(file: &[u8]) -> bool
-    ensures { λ r. ⌜ r ≡ badFile (length (now (file .entry))) (oneByteCount .size) (fileLength oneByteCount (oneByteCount .count (now (file .entry)))) ⌝ }
+fn wrong_length(file: &[u8]) -> bool
+    ensures { λ r. ⌜ r ≡ wrongLength oneByteCount (now (file .entry)) ⌝ }
 {
     if file.len() < HEADER {
         return true;
@@ -105,9 +105,9 @@ fn bad_row_in(n: usize, file: &[u8]) -> bool
     requires { ⌜ (n ≤ widest) × Whole oneByteCount (now file) ⌝ }
     ensures { λ r. ⌜ r ≡ badRow n (rowsIn oneByteCount (now (file .entry))) ⌝ }
 {
-    let rows = count_in(file);
-    let behind = HEADER + rows;
-    let end = behind + rows;
+    let count = count_in(file);
+    let behind = HEADER + count;
+    let end = behind + count;
     lists::bad_row(n, &file[HEADER..behind], &file[behind..end])
 }
 
@@ -115,7 +115,7 @@ fn bad_row_in(n: usize, file: &[u8]) -> bool
 fn file_refusal(file: &[u8]) -> u8
     ensures { λ r. ⌜ r ≡ firstOf (fileConditions oneByteCount (now (file .entry))) ⌝ }
 {
-    if bad_file(file) {
+    if wrong_length(file) {
         return 10;
     }
     let n = width_in(file);
@@ -134,14 +134,14 @@ fn copy_rows(file: &[u8], values: &mut [u8], cares: &mut [u8])
     ensures { λ _. ⌜ now (values .exit) ≡ written 0 (valuesIn oneByteCount (now (file .entry))) (now (values .entry)) ⌝ }
     ensures { λ _. ⌜ now (cares .exit) ≡ written 0 (caresIn oneByteCount (now (file .entry))) (now (cares .entry)) ⌝ }
 {
-    let rows = count_in(file);
-    let behind = HEADER + rows;
-    let end = behind + rows;
+    let count = count_in(file);
+    let behind = HEADER + count;
+    let end = behind + count;
     bytes::copy(&file[HEADER..behind], values);
     bytes::copy(&file[behind..end], cares);
 }
 
-// Reads a list file into the first places of both arrays. Answers the list's width and number of rows, or the number of the refusal.
+// Reads a list file into the first places of both arrays. Answers width and count, or the number of the refusal.
 pub fn read(file: &[u8], values: &mut [u8], cares: &mut [u8]) -> ReadBack
     ensures { λ r. ⌜ Reads oneByteCount (now (file .entry)) (now (values .entry)) (now (cares .entry)) (now (values .exit)) (now (cares .exit)) r ⌝ }
 {
@@ -149,14 +149,14 @@ pub fn read(file: &[u8], values: &mut [u8], cares: &mut [u8]) -> ReadBack
     if k != 0 {
         return ReadBack::Refused(k);
     }
-    let rows = count_in(file);
-    if values.len() < rows {
+    let count = count_in(file);
+    if values.len() < count {
         return ReadBack::Refused(4);
     }
-    if cares.len() < rows {
+    if cares.len() < count {
         return ReadBack::Refused(4);
     }
     copy_rows(file, values, cares);
     let width = width_in(file);
-    ReadBack::List { width, rows }
+    ReadBack::List { width, count }
 }

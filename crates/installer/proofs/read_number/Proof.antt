@@ -5,7 +5,7 @@ use borrow.Author.Needs.{needs}
 use Rattle.listfile.specs.Read.{readAnswer}
 use Rattle.listfile.specs.declared.ReadBack.{ReadBack}
 use Rattle.listfile.specs.declared.ReadBack.the-variants as readback
-use Rattle.installer.specs.Numbers.{headerNumber}
+use Rattle.installer.specs.Numbers.{widthAndCountNumber}
 use Rattle.installer.specs.Steps.{FewRows}
 use Rattle.installer.proofs.Signed.{small-is, returned}
 use Rattle.installer.proofs.read_number.Statement.{statement}
@@ -35,11 +35,11 @@ refusal-requires c κs = search needs
 
 returns : tie.Need-returns
 returns c =
-    small-is _ (omega (arith, few (c .before) .0, few (c .before) .1)) ∙ ap (λ (a : ReadBack). headerNumber (readAnswer a)) (sym (c .before .answer .given .1))
+    small-is _ (omega (arith, few (c .before) .0, few (c .before) .1)) ∙ ap (λ (a : ReadBack). widthAndCountNumber (readAnswer a)) (sym (c .before .answer .given .1))
 
 returns-2 : tie.Need-returns-2
 returns-2 c =
-    returned (c .refusal .result) (c .refusal .ok) ∙ c .refusal .ensures ∙ ap (λ (a : ReadBack). headerNumber (readAnswer a)) (sym (c .before .before .answer2 .given .1))
+    returned (c .refusal .result) (c .refusal .ok) ∙ c .refusal .ensures ∙ ap (λ (a : ReadBack). widthAndCountNumber (readAnswer a)) (sym (c .before .before .answer2 .given .1))
 
 pub read-number-spec : {M : Type 1} → statement M
 read-number-spec = tie.close (tie.spec enum-known-answer mul-result add-result cast-result enum-known-answer-2 refusal-requires returns returns-2)

@@ -2,7 +2,7 @@
 use mathlib.Core.Path.{_∙_}
 use borrow.Author.Needs.{needs}
 use Rattle.installer.proofs.Signed.{returned}
-use Rattle.installer.proofs.Headers.{few-rows, reads-for-c}
+use Rattle.installer.proofs.Widths.{few-rows, reads-for-c}
 use Rattle.installer.proofs.rows_read.Statement.{statement}
 use Rattle.installer.proofs.rows_read.Tie as tie
 

@@ -43,9 +43,9 @@ bad-row-requires c κs = search needs
 returns : tie.Need-returns
 returns c =
     let s = c .before .before .before .before .before .args in
-    let rows = c .before .before .before .count-in in
+    let count = c .before .before .before .count-in in
     c .bad-row .ensures
-    ∙ ap₂ (λ (vs ws : List ℕ). badRow (s .n) (rowsOf vs ws)) (values-part oneByteCount (s .file .now) (rows .result) (rows .ensures .0)) (cares-part oneByteCount (s .file .now) (rows .result) (rows .ensures .0))
+    ∙ ap₂ (λ (vs ws : List ℕ). badRow (s .n) (rowsOf vs ws)) (values-part oneByteCount (s .file .now) (count .result) (count .ensures .0)) (cares-part oneByteCount (s .file .now) (count .result) (count .ensures .0))
 
 pub bad-row-in-spec : {M : Type 1} → statement M
 bad-row-in-spec =

@@ -57,9 +57,9 @@ same-length-2 c = search needs
 returns : tie.Need-returns
 returns c =
     let s = c .before .before .before .before .before .before .before .before .before .before .before .before .before .before .args in
-    let rows = c .before .before .before .before .before .before .before .before .before .before .count-in in (
-      copied (s .values .now) (values-part oneByteCount (s .file .now) (rows .result) (rows .ensures .0)) (c .before .before .before .before .before .before .before .copy .ensures .1),
-      copied (s .cares .now) (cares-part oneByteCount (s .file .now) (rows .result) (rows .ensures .0)) (c .before .before .copy2 .ensures .1),
+    let count = c .before .before .before .before .before .before .before .before .before .before .count-in in (
+      copied (s .values .now) (values-part oneByteCount (s .file .now) (count .result) (count .ensures .0)) (c .before .before .before .before .before .before .before .copy .ensures .1),
+      copied (s .cares .now) (cares-part oneByteCount (s .file .now) (count .result) (count .ensures .0)) (c .before .before .copy2 .ensures .1),
     )
 
 pub copy-rows-spec : {M : Type 1} → statement M

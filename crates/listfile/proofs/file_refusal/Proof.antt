@@ -1,44 +1,40 @@
 -- `listfile::file_refusal` meets its contract: each return follows from the conditions that led there. Assumes nothing.
 use mathlib.Core.Path.{_≡_, sym, ap, _∙_}
-use mathlib.Core.Bool.{Bool, true, false}
+use mathlib.Core.Bool.{true, false}
 use mathlib.Core.List.{List, [], _∷_}
-use Prim.Native.Nat.{ℕ, _≤_}
+use Prim.Native.Nat.{ℕ}
 use native.Mathlib.Omega.{arith}
-use lib.ListN.{length}
 use borrow.Author.Needs.{needs}
-use Rattle.cube.specs.Calls.{widest, badWidth, badRow, badFile, Condition, when, firstOf}
+use Rattle.cube.specs.Calls.{badWidth, badRow, Condition, when, firstOf}
 use Rattle.cube.proofs.Calls.{width-to, first-holds, first-passes}
-use Rattle.listfile.specs.File.{oneByteCount, fileLength, widthIn}
-use Rattle.listfile.specs.Read.{rowsIn, fileConditions}
+use Rattle.listfile.specs.File.{oneByteCount, widthIn}
+use Rattle.listfile.specs.Read.{rowsIn, wrongLength, fileConditions}
 use Rattle.listfile.specs.Steps.{Whole}
-use Rattle.listfile.proofs.Files.{not-bad}
+use Rattle.listfile.proofs.Files.{right-length}
 use Rattle.listfile.proofs.file_refusal.Statement.{statement}
 use Rattle.listfile.proofs.file_refusal.Tie as tie
 
 module _ (file : List ℕ) where
-  abbrev bad : Bool
-  bad = badFile (length file) (oneByteCount .size) (fileLength oneByteCount (oneByteCount .count file))
-
   abbrev rows-left : List Condition
   rows-left = when (badRow (widthIn file) (rowsIn oneByteCount file)) 7 ∷ []
 
   abbrev width-left : List Condition
   width-left = when (badWidth (widthIn file)) 1 ∷ rows-left
 
-  ten : bad ≡ true → 10 ≡ firstOf (fileConditions oneByteCount file)
-  ten h = sym (first-holds bad 10 width-left h)
+  ten : wrongLength oneByteCount file ≡ true → 10 ≡ firstOf (fileConditions oneByteCount file)
+  ten h = sym (first-holds (wrongLength oneByteCount file) 10 width-left h)
 
-  module _ (e : bad ≡ false) where
+  module _ (e : wrongLength oneByteCount file ≡ false) where
     whole : Whole oneByteCount file
-    whole = not-bad (length file) (oneByteCount .size) (fileLength oneByteCount (oneByteCount .count file)) e
+    whole = right-length oneByteCount file e
 
     module _ (n : ℕ) (n-is : n ≡ widthIn file) where
       one : badWidth n ≡ true → 1 ≡ firstOf (fileConditions oneByteCount file)
-      one h = sym (first-passes bad 10 width-left e ∙ first-holds (badWidth (widthIn file)) 1 rows-left (ap badWidth (sym n-is) ∙ h))
+      one h = sym (first-passes (wrongLength oneByteCount file) 10 width-left e ∙ first-holds (badWidth (widthIn file)) 1 rows-left (ap badWidth (sym n-is) ∙ h))
 
       module _ (good : badWidth n ≡ false) where
         left : firstOf (fileConditions oneByteCount file) ≡ firstOf rows-left
-        left = first-passes bad 10 width-left e ∙ first-passes (badWidth (widthIn file)) 1 rows-left (ap badWidth (sym n-is) ∙ good)
+        left = first-passes (wrongLength oneByteCount file) 10 width-left e ∙ first-passes (badWidth (widthIn file)) 1 rows-left (ap badWidth (sym n-is) ∙ good)
 
         at-width : badRow (widthIn file) (rowsIn oneByteCount file) ≡ badRow n (rowsIn oneByteCount file)
         at-width = ap (λ (k : ℕ). badRow k (rowsIn oneByteCount file)) (sym n-is)
@@ -49,17 +45,17 @@ module _ (file : List ℕ) where
         none : badRow n (rowsIn oneByteCount file) ≡ false → 0 ≡ firstOf (fileConditions oneByteCount file)
         none h = sym (left ∙ first-passes (badRow (widthIn file) (rowsIn oneByteCount file)) 7 [] (at-width ∙ h))
 
-has-length : (c : tie.Else1) → bad (c .before .before .before .args .file .now) ≡ false
-has-length c = sym (c .before .bad-file .ensures) ∙ c .if1 .left
+has-length : (c : tie.Else1) → wrongLength oneByteCount (c .before .before .before .args .file .now) ≡ false
+has-length c = sym (c .before .wrong-length .ensures) ∙ c .if1 .left
 
 good-at : (c : tie.Else2) → badWidth (c .before .before .width-in .result) ≡ false
 good-at c = sym (c .before .bad-width .ensures) ∙ c .if2 .left
 
-bad-file-requires : tie.Need-bad-file-requires
-bad-file-requires c κs = search needs
+wrong-length-requires : tie.Need-wrong-length-requires
+wrong-length-requires c κs = search needs
 
 returns : tie.Need-returns
-returns c = ten (c .before .before .before .args .file .now) (sym (c .before .bad-file .ensures) ∙ c .if1 .taken)
+returns c = ten (c .before .before .before .args .file .now) (sym (c .before .wrong-length .ensures) ∙ c .if1 .taken)
 
 width-in-requires : tie.Need-width-in-requires
 width-in-requires c κs = omega (arith, whole (c .before .before .before .args .file .now) (has-length c))
@@ -86,4 +82,4 @@ returns-4 c =
 
 pub file-refusal-spec : {M : Type 1} → statement M
 file-refusal-spec =
-    tie.close (tie.spec bad-file-requires returns width-in-requires bad-width-requires returns-2 bad-row-in-requires returns-3 returns-4)
+    tie.close (tie.spec wrong-length-requires returns width-in-requires bad-width-requires returns-2 bad-row-in-requires returns-3 returns-4)

@@ -1,15 +1,14 @@
 -- `listfile::read` meets its contract: each return follows from the conditions that led there. Assumes nothing.
-use mathlib.Core.Path.{_≡_, refl, sym, ap, ap₂, _∙_, subst}
+use mathlib.Core.Path.{_≡_, refl, sym, ap, ap₂, _∙_}
 use mathlib.Core.List.{List}
 use Prim.Native.Nat.{ℕ, zero, suc, _<_, _≤_}
 use native.Mathlib.Omega.{arith}
 use lib.ListN.{length}
 use borrow.Author.Needs.{needs}
-use Rattle.cube.specs.Calls.{mostRows, firstOf, Answer, gives, refuses, answered, written}
+use Rattle.cube.specs.Calls.{mostRows, firstOf, gives, answered, written}
 use Rattle.listfile.specs.File.{oneByteCount, widthIn, valuesIn, caresIn}
-use Rattle.listfile.specs.Read.{fileConditions, readRefuses, headerOf, Reads}
-use Rattle.listfile.specs.Steps.{Whole, Readable}
-use Rattle.listfile.specs.declared.ReadBack.{ReadBack}
+use Rattle.listfile.specs.Read.{fileConditions, readRefuses, widthAndCount, Reads}
+use Rattle.listfile.specs.Steps.{Readable}
 use Rattle.listfile.specs.declared.ReadBack.the-variants as readback
 use Rattle.listfile.proofs.Files.{accepted-file, read-refuses, short-values, short-cares, read-passes}
 use Rattle.listfile.proofs.read.Statement.{statement}
@@ -22,7 +21,7 @@ module _ (file values cares : List ℕ) where
   -- a refusal leaves both arrays
   refused : (k : ℕ) → refusal ≡ suc k → Reads oneByteCount file values cares values cares (readback.Refused (suc k))
   refused k e = record {
-    answer = ap (λ (i : ℕ). answered i (headerOf oneByteCount file)) (sym e);
+    answer = ap (λ (i : ℕ). answered i (widthAndCount oneByteCount file)) (sym e);
     values-are = ap (λ (i : ℕ). written i (valuesIn oneByteCount file) values) (sym e);
     cares-are = ap (λ (i : ℕ). written i (caresIn oneByteCount file) cares) (sym e);
     few = λ z. absurd (omega (arith, e, z));
@@ -32,27 +31,27 @@ module _ (file values cares : List ℕ) where
   refuses-file zero e h = absurd (h refl)
   refuses-file (suc k) e h = refused k (read-refuses oneByteCount file (length values) (length cares) k (sym e))
 
-  module _ (e : firstOf (fileConditions oneByteCount file) ≡ 0) (rows : ℕ) (rows-is : rows ≡ oneByteCount .count file) where
-    few-values : length values < rows → Reads oneByteCount file values cares values cares (readback.Refused 4)
-    few-values l = refused 3 (short-values oneByteCount file (length values) (length cares) e (omega (arith, l, rows-is)))
+  module _ (e : firstOf (fileConditions oneByteCount file) ≡ 0) (count : ℕ) (count-is : count ≡ oneByteCount .count file) where
+    few-values : length values < count → Reads oneByteCount file values cares values cares (readback.Refused 4)
+    few-values l = refused 3 (short-values oneByteCount file (length values) (length cares) e (omega (arith, l, count-is)))
 
-    few-cares : length cares < rows → Reads oneByteCount file values cares values cares (readback.Refused 4)
-    few-cares l = refused 3 (short-cares oneByteCount file (length values) (length cares) e (omega (arith, l, rows-is)))
+    few-cares : length cares < count → Reads oneByteCount file values cares values cares (readback.Refused 4)
+    few-cares l = refused 3 (short-cares oneByteCount file (length values) (length cares) e (omega (arith, l, count-is)))
 
-    module _ (l : rows ≤ length values) (m : rows ≤ length cares) where
+    module _ (l : count ≤ length values) (m : count ≤ length cares) where
       readable : Readable file values cares
-      readable = record { whole = accepted-file oneByteCount file e .whole; values-room = omega (arith, l, rows-is); cares-room = omega (arith, m, rows-is) }
+      readable = record { whole = accepted-file oneByteCount file e .whole; values-room = omega (arith, l, count-is); cares-room = omega (arith, m, count-is) }
 
       passes : refusal ≡ 0
-      passes = read-passes oneByteCount file (length values) (length cares) e (omega (arith, l, rows-is)) (omega (arith, m, rows-is))
+      passes = read-passes oneByteCount file (length values) (length cares) e (omega (arith, l, count-is)) (omega (arith, m, count-is))
 
-      done : (values′ cares′ : List ℕ) (n : ℕ) → n ≡ widthIn file → rows ≤ mostRows → values′ ≡ written 0 (valuesIn oneByteCount file) values
-          → cares′ ≡ written 0 (caresIn oneByteCount file) cares → Reads oneByteCount file values cares values′ cares′ (readback.List n rows)
+      done : (values′ cares′ : List ℕ) (n : ℕ) → n ≡ widthIn file → count ≤ mostRows → values′ ≡ written 0 (valuesIn oneByteCount file) values
+          → cares′ ≡ written 0 (caresIn oneByteCount file) cares → Reads oneByteCount file values cares values′ cares′ (readback.List n count)
       done values′ cares′ n n-is few vs-are ws-are = record {
-        answer = ap₂ (λ (x y : ℕ). gives (record { width = x; rows = y })) n-is rows-is ∙ ap (λ (i : ℕ). answered i (headerOf oneByteCount file)) (sym passes);
+        answer = ap₂ (λ (x y : ℕ). gives (record { width = x; count = y })) n-is count-is ∙ ap (λ (i : ℕ). answered i (widthAndCount oneByteCount file)) (sym passes);
         values-are = vs-are ∙ ap (λ (i : ℕ). written i (valuesIn oneByteCount file) values) (sym passes);
         cares-are = ws-are ∙ ap (λ (i : ℕ). written i (caresIn oneByteCount file) cares) (sym passes);
-        few = λ z. omega (arith, few, rows-is);
+        few = λ z. omega (arith, few, count-is);
       }
 
 passed : (c : tie.Else1) → firstOf (fileConditions oneByteCount (c .before .before .before .before .before .args .file .now)) ≡ 0
@@ -97,10 +96,10 @@ same-length-2 c = search needs
 returns-4 : tie.Need-returns-4
 returns-4 c =
     let s = c .before .before .before .before .before .before .before .before .before .before .before .before .before .before .before .before .args in
-    let rows = c .before .before .before .before .before .before .before .before .before .before .count-in in
+    let count = c .before .before .before .before .before .before .before .before .before .before .count-in in
     let copied = c .before .before .before .before .before .copy-rows in
-    done (s .file .now) (s .values .now) (s .cares .now) (passed (c .before .before .before .before .before .before .before .before .before .before .before)) _ (rows .ensures .0) (c .before .before .before .before .before .before .before .before .before .if2 .left) (c .before .before .before .before .before .before .before .before .if3 .left) _ _ _
-    (c .width-in .ensures) (rows .ensures .1) (copied .ensures .0) (copied .ensures .1)
+    done (s .file .now) (s .values .now) (s .cares .now) (passed (c .before .before .before .before .before .before .before .before .before .before .before)) _ (count .ensures .0) (c .before .before .before .before .before .before .before .before .before .if2 .left) (c .before .before .before .before .before .before .before .before .if3 .left) _ _ _
+    (c .width-in .ensures) (count .ensures .1) (copied .ensures .0) (copied .ensures .1)
 
 pub read-spec : {M : Type 1} → statement M
 read-spec =

@@ -1,4 +1,4 @@
--- `listfile::bad_file` meets its contract. Assumes nothing.
+-- `listfile::wrong_length` meets its contract. Assumes nothing.
 use mathlib.Core.Path.{ap, _∙_}
 use mathlib.Core.Bool.{not}
 use Prim.Native.Nat.{ℕ}
@@ -7,8 +7,8 @@ use lib.ListN.{length}
 use borrow.Author.Needs.{needs}
 use Rattle.listfile.specs.File.{oneByteCount, fileLength}
 use Rattle.listfile.proofs.Files.{bad-short, bad-else}
-use Rattle.listfile.proofs.bad_file.Statement.{statement}
-use Rattle.listfile.proofs.bad_file.Tie as tie
+use Rattle.listfile.proofs.wrong_length.Statement.{statement}
+use Rattle.listfile.proofs.wrong_length.Tie as tie
 
 returns : tie.Need-returns
 returns c = bad-short _ _ _ (c .if1 .taken)
@@ -25,5 +25,5 @@ returns-2 c =
     ap (λ (i : ℕ). not (eqb bytes i)) (c .file-length .ensures ∙ ap (fileLength oneByteCount) (c .before .count-in .ensures .0))
     ∙ bad-else bytes _ _ (c .before .before .if1 .left)
 
-pub bad-file-spec : {M : Type 1} → statement M
-bad-file-spec = tie.close (tie.spec returns count-in-requires file-length-requires returns-2)
+pub wrong-length-spec : {M : Type 1} → statement M
+wrong-length-spec = tie.close (tie.spec returns count-in-requires file-length-requires returns-2)

@@ -8,38 +8,39 @@ use lib.ListN.{length}
 use Rattle.cube.specs.Calls.{widest, mostRows, gives}
 use Rattle.cube.proofs.Calls.{width-to, answered-refuses}
 use Rattle.listfile.specs.File.{oneByteCount}
-use Rattle.listfile.specs.Read.{readRefuses, headerOf, readAnswer, Reads}
+use Rattle.listfile.specs.Read.{readRefuses, widthAndCount, readAnswer, Reads}
 use Rattle.listfile.specs.declared.ReadBack.{ReadBack}
 use Rattle.listfile.specs.declared.ReadBack.the-variants as readback
 use Rattle.listfile.proofs.Files.{read-accepted, read-gives}
-use Rattle.installer.specs.Numbers.{headerNumber, readHeader, ReadsForC}
+use Rattle.installer.specs.Numbers.{widthAndCountNumber, readWidthAndCount, ReadsForC}
 use Rattle.installer.specs.Steps.{FewRows}
 
 module _ {file values cares values′ cares′ : List ℕ} where
   pub few-rows : (r : ReadBack) → Reads oneByteCount file values cares values′ cares′ r → FewRows r
   few-rows (readback.Refused k) p = tt
-  few-rows (readback.List n rows) p =
+  few-rows (readback.List n count) p =
       let given = read-gives p in (
         subst⁻¹ (λ (k : ℕ). k ≤ widest) (given .width-is) (width-to _ (read-accepted oneByteCount file (length values) (length cares) (given .refuses-none) .width)),
-        subst⁻¹ (λ (k : ℕ). k ≤ mostRows) (given .rows-is) (p .few (given .refuses-none)),
+        subst⁻¹ (λ (k : ℕ). k ≤ mostRows) (given .count-is) (p .few (given .refuses-none)),
       )
 
   -- the answer is read off its number
-  read-back : (r : ReadBack) → Reads oneByteCount file values cares values′ cares′ r → readHeader (headerNumber (readAnswer r)) ≡ readAnswer r
-  read-back (readback.List n rows) p =
-      let few = few-rows (readback.List n rows) p in
-      let width-is : (100000 * n + rows) / 100000 ≡ n = omega (arith, few .1) in
-      let rows-are : (100000 * n + rows) % 100000 ≡ rows = omega (arith, few .1) in
-      ap₂ (λ (x y : ℕ). gives (record { width = x; rows = y })) width-is rows-are
+  read-back : (r : ReadBack) → Reads oneByteCount file values cares values′ cares′ r → readWidthAndCount (widthAndCountNumber (readAnswer r)) ≡ readAnswer r
+  read-back (readback.List n count) p =
+      let few = few-rows (readback.List n count) p in
+      let width-is : (100000 * n + count) / 100000 ≡ n = omega (arith, few .1) in
+      let count-is : (100000 * n + count) % 100000 ≡ count = omega (arith, few .1) in
+      ap₂ (λ (x y : ℕ). gives (record { width = x; count = y })) width-is count-is
   read-back (readback.Refused zero) p =
-      let h = answered-refuses 0 (readRefuses oneByteCount file (length values) (length cares)) (headerOf oneByteCount file) (p .answer) in absurd (h .1 (h .0))
+      let h = answered-refuses 0 (readRefuses oneByteCount file (length values) (length cares)) (widthAndCount oneByteCount file) (p .answer) in absurd (h .1 (h .0))
   read-back (readback.Refused (suc k)) p = refl
 
-  pub reads-for-c : (a : ReadBack) (r : ℤ) → Reads oneByteCount file values cares values′ cares′ a → r ≡ headerNumber (readAnswer a)
+  pub reads-for-c : (a : ReadBack) (r : ℤ) → Reads oneByteCount file values cares values′ cares′ a → r ≡ widthAndCountNumber (readAnswer a)
       → ReadsForC file values cares values′ cares′ r
   reads-for-c a r p e = record {
-    number = e ∙ ap headerNumber (p .answer);
+    number = e ∙ ap widthAndCountNumber (p .answer);
     values-are = p .values-are;
     cares-are = p .cares-are;
-    read = ap readHeader e ∙ read-back a p ∙ p .answer;
+    few = p .few;
+    read = ap readWidthAndCount e ∙ read-back a p ∙ p .answer;
   }
