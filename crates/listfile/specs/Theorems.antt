@@ -44,7 +44,7 @@ pub record SameBytes (file out′ : List ℕ) (r : Counted) : Type 0 where
   pub bytes : take (length file) out′ ≡ file
 
 -- "a file that is read and written again has the same bytes": where Read answers a width and a count, Write of that width and of the first places, as many as
--- the count, gives the file, in any buffer of its length
+-- the count, gives the file, in any buffer with room for it
 abbrev pub ReadIsWrittenAgain : Type 0
 ReadIsWrittenAgain =
     (file values cares values′ cares′ : List ℕ) (n count : ℕ) → Reads oneByteCount file values cares values′ cares′ (readback.List n count)
