@@ -1,17 +1,17 @@
 -- What the calls share: the first condition that holds, and conditions after others; a width, a table and a list that are not refused; what an answer
 -- tells; and the two ways in which a call that writes a list ends. Assumes nothing.
-use mathlib.Core.Path.{_≡_, refl, sym, ap, _∙_, subst}
-use mathlib.Core.Bool.{Bool, true, false, cond, not, _&&_, _||_, true≢false}
+use mathlib.Core.Path.{_≡_, refl, sym, ap, ap₂, _∙_, subst}
+use mathlib.Core.Bool.{Bool, true, false, cond, not, _&&_, _||_, or-true, true≢false}
 use mathlib.Core.List.{List, [], _∷_, _++_}
-use Prim.Native.Nat.{ℕ, zero, suc, _^_, _≤_}
+use Prim.Native.Nat.{ℕ, zero, suc, _^_, _<_, _≤_}
 use native.Mathlib.Nat.{pow-le-pow-right}
 use native.Mathlib.Omega.{arith}
 use lib.Dec.{T, eqb, ltb, lit<}
 use lib.ListN.{length, take, drop}
 use lib.Pow.{pow-mono}
-use borrow.Author.Tests.{ltb-false, eqb-true, not-false}
+use borrow.Author.Tests.{ltb-false, lt-ltb, le-ltb, eqb-true, not-false}
 use Rattle.cube.specs.Words.{rowsOf, prime, essential, primesOf, essentialsOf}
-use Rattle.cube.specs.Calls.{widest, badWidth, badLength, unequalLengths, mostRows, tooManyRows, badRow, Condition, when, firstOf, tableConditions, listConditions, Answer, refuses, gives, answered, written, Listed}
+use Rattle.cube.specs.Calls.{widest, badWidth, badLength, short, unequalLengths, mostRows, tooManyRows, badRow, Condition, when, firstOf, tableConditions, listConditions, Answer, refuses, gives, answered, written, Listed}
 use Rattle.cube.specs.declared.Counted.{Counted}
 use Rattle.cube.specs.declared.Counted.the-variants.{Count, Refused}
 use Rattle.numbers.specs.Lent.{Puts}
@@ -93,6 +93,40 @@ none-in-front xs ys e = go (firstOf xs) refl
     go zero a = a
     go (suc k) a = absurd (let z : suc k ≡ 0 = sym (conditions-refuse xs ys k a) ∙ e in omega arith)
 
+-- one more condition after others, with 4
+module _ (xs : List Condition) (n : T (numbered xs)) (b : Bool) where
+  abbrev pub then-four : ℕ
+  then-four = firstOf (xs ++ (when b 4 ∷ []))
+
+  pub four-before : (k : ℕ) → k ≡ firstOf xs → (k ≡ 0 → ⊥) → k ≡ then-four
+  four-before zero e h = absurd (h refl)
+  four-before (suc k) e h = sym (conditions-refuse xs (when b 4 ∷ []) k (sym e))
+
+  pub four-holds : firstOf xs ≡ 0 → b ≡ true → 4 ≡ then-four
+  four-holds e h = sym (conditions-pass xs (when b 4 ∷ []) n e ∙ first-holds b 4 [] h)
+
+  pub four-passes : firstOf xs ≡ 0 → b ≡ false → 0 ≡ then-four
+  four-passes e h = sym (conditions-pass xs (when b 4 ∷ []) n e ∙ first-passes b 4 [] h)
+
+  -- where it is not refused
+  pub four-none : then-four ≡ 0 → (firstOf xs ≡ 0) × (b ≡ false)
+  four-none e =
+      let front = none-in-front xs (when b 4 ∷ []) e in (front, none-first b 3 0 (sym (conditions-pass xs (when b 4 ∷ []) n front) ∙ e) .0)
+
+-- two lent arrays, either of which may be too short
+module _ (a b needed : ℕ) where
+  pub first-short : a < needed → (short a needed || short b needed) ≡ true
+  first-short l = ap (λ (x : Bool). x || short b needed) (lt-ltb a needed l)
+
+  pub second-short : b < needed → (short a needed || short b needed) ≡ true
+  second-short l = ap (λ (x : Bool). short a needed || x) (lt-ltb b needed l) ∙ or-true (short a needed)
+
+  pub neither-short : needed ≤ a → needed ≤ b → (short a needed || short b needed) ≡ false
+  neither-short l m = ap₂ _||_ (le-ltb a needed l) (le-ltb b needed m)
+
+  pub both-long : (short a needed || short b needed) ≡ false → (needed ≤ a) × (needed ≤ b)
+  both-long e = let long = neither (short a needed) (short b needed) e in (ltb-false a needed (long .0), ltb-false b needed (long .1))
+
 -- ---- a table that is not refused
 
 pub record Accepted (n : ℕ) (t : List ℕ) : Type 0 where
@@ -115,27 +149,6 @@ module _ (n : ℕ) (t : List ℕ) where
 
   pub table-refuses : (rest : List Condition) (k : ℕ) → firstOf (tableConditions n t) ≡ suc k → firstOf (tableConditions n t ++ rest) ≡ suc k
   table-refuses rest k e = conditions-refuse (tableConditions n t) rest k e
-
--- a call on a table that is refused for one more condition, with 4
-module _ (n : ℕ) (t : List ℕ) (b : Bool) where
-  abbrev pub then-four : ℕ
-  then-four = firstOf (tableConditions n t ++ (when b 4 ∷ []))
-
-  pub four-table : (k : ℕ) → k ≡ firstOf (tableConditions n t) → (k ≡ 0 → ⊥) → k ≡ then-four
-  four-table zero e h = absurd (h refl)
-  four-table (suc k) e h = sym (table-refuses n t (when b 4 ∷ []) k (sym e))
-
-  pub four-holds : firstOf (tableConditions n t) ≡ 0 → b ≡ true → 4 ≡ then-four
-  four-holds e h = sym (table-passes n t (when b 4 ∷ []) e ∙ first-holds b 4 [] h)
-
-  pub four-passes : firstOf (tableConditions n t) ≡ 0 → b ≡ false → 0 ≡ then-four
-  four-passes e h = sym (table-passes n t (when b 4 ∷ []) e ∙ first-passes b 4 [] h)
-
-  -- where it is not refused
-  pub four-none : then-four ≡ 0 → Accepted n t × (b ≡ false)
-  four-none e =
-      let table = none-in-front (tableConditions n t) (when b 4 ∷ []) e in
-      (accepted n t table, none-first b 3 0 (sym (table-passes n t (when b 4 ∷ []) table) ∙ e) .0)
 
 -- ---- a list that is not refused
 

@@ -1,24 +1,25 @@
 -- A count fits the 32 bits that C gets: a call that does not refuse has a width in range, so it lists at most the 2^n codes or the 3^n cubes, and a
 -- list file has at most 255 rows. So the number of the answer is the count itself, and the answer is read off it. Assumes nothing.
 use mathlib.Core.Path.{_≡_, refl, ap, _∙_, subst⁻¹}
-use mathlib.Core.List.{List, [], _∷_}
+use mathlib.Core.List.{List}
 use Prim.Native.Nat.{ℕ, zero, suc, _^_, _<_, _≤_}
 use native.Mathlib.Omega.{arith}
 use lib.IntN.{ℤ}
 use lib.ListN.{length, length-map}
-use Rattle.cube.specs.Words.{rowsOf, codesOf, primesOf, essentialsOf}
-use Rattle.cube.specs.Calls.{badWidth, short, when, listConditions, answered, countAnswer, Listed}
+use Rattle.cube.specs.Words.{codesOf, primesOf, essentialsOf}
+use Rattle.cube.specs.Calls.{answered, countAnswer, Listed}
 use Rattle.cube.specs.declared.Counted.{Counted}
 use Rattle.cube.specs.declared.Counted.the-variants.{Count, Refused}
-use Rattle.cube.proofs.Calls.{none-first, width-first, none-in-front, codes-most, cubes-most, primes-most, essentials-most, accepted-list, answered-gives}
+use Rattle.cube.proofs.Calls.{width-first, codes-most, cubes-most, primes-most, essentials-most, answered-gives}
 use Rattle.cube.proofs.Codes.{codes-length}
 use Rattle.cube.proofs.Lists.{rows-length}
 use Rattle.cells.specs.Cells.{cellsRefuses}
 use Rattle.primes.specs.Primes.{primesRefuses}
 use Rattle.chart.specs.Rows.{chartOf}
-use Rattle.listfile.specs.File.{oneByteCount, fileLength, fileOf}
+use Rattle.listfile.specs.File.{oneByteCount, fileOf}
 use Rattle.listfile.specs.Write.{writeRefuses}
 use Rattle.listfile.proofs.Theorems.{file-length}
+use Rattle.listfile.proofs.Files.{write-accepted}
 use Rattle.installer.specs.Numbers.{countNumber, readCount, ListedForC}
 use Rattle.installer.specs.Steps.{FewCounted}
 
@@ -42,8 +43,7 @@ module _ (n : ℕ) (t : List ℕ) (places : ℕ) (e : primesRefuses n t places �
 
 pub few-bytes : (n : ℕ) (vs ws : List ℕ) (places : ℕ) → writeRefuses oneByteCount n vs ws places ≡ 0 → length (fileOf oneByteCount n vs ws) < 2 ^ 31
 few-bytes n vs ws places e =
-    let past-list = when (short places (fileLength oneByteCount (length (rowsOf vs ws)))) 4 ∷ [] in
-    let list = accepted-list n vs ws (none-in-front (listConditions n vs ws) past-list (none-first (badWidth n) 0 _ e .1)) in
+    let list = write-accepted oneByteCount n vs ws places e .1 in
     omega (arith, file-length n vs ws (list .equal), rows-length vs ws (list .equal), list .few)
 
 -- ---- what is answered

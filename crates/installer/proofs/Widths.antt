@@ -20,8 +20,8 @@ module _ {file values cares values′ cares′ : List ℕ} where
   few-rows (readback.Refused k) p = tt
   few-rows (readback.List n count) p =
       let given = read-gives p in (
-        subst⁻¹ (λ (k : ℕ). k ≤ widest) (given .width-is) (width-to _ (read-accepted oneByteCount file (length values) (length cares) (given .refuses-none) .width)),
-        subst⁻¹ (λ (k : ℕ). k ≤ mostRows) (given .count-is) (p .few (given .refuses-none)),
+        subst⁻¹ (λ (k : ℕ). k ≤ widest) (given .width-is) (width-to _ (read-accepted oneByteCount file (length values) (length cares) (given .not-refused) .width)),
+        subst⁻¹ (λ (k : ℕ). k ≤ mostRows) (given .count-is) (p .few (given .not-refused)),
       )
 
   -- the answer is read off its number

@@ -1,7 +1,7 @@
 -- The parts of a file: those of the file of a list are the list's arrays, and a whole file is made of its parts. What a file that is not refused has, what
--- Read refuses, and what an answer of Read says. Assumes nothing.
+-- Write and Read refuse, and what an answer of Read says. Assumes nothing.
 use mathlib.Core.Path.{_≡_, sym, ap, ap₂, _∙_}
-use mathlib.Core.Bool.{Bool, true, false, not, _||_, or-true}
+use mathlib.Core.Bool.{Bool, true, false, not, _||_}
 use mathlib.Core.List.{List, [], _∷_, _++_}
 use Prim.Native.Nat.{ℕ, suc, _+_, _-_, _<_, _≤_}
 use native.Mathlib.Omega.{arith}
@@ -11,9 +11,11 @@ use lib.Seq.{length-take-le, take-length, take-append-seam, drop-append-seam}
 use borrow.Rule.Slice.PartMut.{midOf}
 use borrow.Author.Tests.{lt-ltb, le-ltb, eqb-true, not-false}
 use Rattle.numbers.proofs.Bools.{is-true, eqb-of}
-use Rattle.cube.specs.Calls.{badWidth, short, badRow, badFile, when, firstOf}
-use Rattle.cube.proofs.Calls.{neither, first-holds, first-passes, none-first, conditions-refuse, conditions-pass, none-in-front, answered-gives}
+use Rattle.cube.specs.Words.{rowsOf}
+use Rattle.cube.specs.Calls.{badWidth, short, badRow, badFile, when, firstOf, listConditions}
+use Rattle.cube.proofs.Calls.{neither, first-passes, none-first, none-in-front, AcceptedList, accepted-list, four-before, four-holds, four-passes, four-none, first-short, second-short, neither-short, answered-gives}
 use Rattle.listfile.specs.File.{Format, oneByteCount, fileLength, fileOf, widthIn, valuesIn, caresIn}
+use Rattle.listfile.specs.Write.{writeRefuses}
 use Rattle.listfile.specs.Read.{rowsIn, wrongLength, fileConditions, readRefuses, WidthAndCount, widthAndCount, Reads}
 use Rattle.listfile.specs.Steps.{Whole}
 use Rattle.listfile.specs.declared.ReadBack.the-variants as readback
@@ -108,38 +110,42 @@ file-passes format file a =
     first-passes (wrongLength format file) 10 (when (badWidth (widthIn file)) 1 ∷ rows) (whole-right format file (a .whole))
     ∙ first-passes (badWidth (widthIn file)) 1 rows (a .width) ∙ first-passes (badRow (widthIn file) (rowsIn format file)) 7 [] (a .formed)
 
--- ---- what Read refuses, after the file's conditions
+-- ---- what Write does not refuse: a width, and a list of rows that are formed
+
+pub write-accepted : (format : Format) (n : ℕ) (vs ws : List ℕ) (places : ℕ) → writeRefuses format n vs ws places ≡ 0 → (badWidth n ≡ false) × AcceptedList n vs ws
+write-accepted format n vs ws places e =
+    let a = none-first (badWidth n) 0 _ e in
+    let past-list = when (short places (fileLength format (length (rowsOf vs ws)))) 4 ∷ [] in
+    (a .0, accepted-list n vs ws (none-in-front (listConditions n vs ws) past-list (a .1)))
+
+-- ---- what Read refuses: what the file is refused for, then 4 where either array is short
 
 module _ (format : Format) (file : List ℕ) (values cares : ℕ) where
-  abbrev shortOfIt : Bool
-  shortOfIt = short values (format .count file) || short cares (format .count file)
+  abbrev is-short : Bool
+  is-short = short values (format .count file) || short cares (format .count file)
 
-  pub read-refuses : (k : ℕ) → firstOf (fileConditions format file) ≡ suc k → readRefuses format file values cares ≡ suc k
-  read-refuses k e = conditions-refuse (fileConditions format file) (when shortOfIt 4 ∷ []) k e
-
-  pub read-is : firstOf (fileConditions format file) ≡ 0 → readRefuses format file values cares ≡ firstOf (when shortOfIt 4 ∷ [])
-  read-is e = conditions-pass (fileConditions format file) (when shortOfIt 4 ∷ []) tt e
+  pub refuses-file : (k : ℕ) → k ≡ firstOf (fileConditions format file) → (k ≡ 0 → ⊥) → k ≡ readRefuses format file values cares
+  refuses-file = four-before (fileConditions format file) tt is-short
 
   module _ (e : firstOf (fileConditions format file) ≡ 0) where
-    pub short-values : values < format .count file → readRefuses format file values cares ≡ 4
-    short-values l = read-is e ∙ first-holds shortOfIt 4 [] (ap (λ (b : Bool). b || short cares (format .count file)) (lt-ltb _ _ l))
+    pub refuses-values : values < format .count file → 4 ≡ readRefuses format file values cares
+    refuses-values h = four-holds (fileConditions format file) tt is-short e (first-short values cares (format .count file) h)
 
-    pub short-cares : cares < format .count file → readRefuses format file values cares ≡ 4
-    short-cares l =
-        read-is e ∙ first-holds shortOfIt 4 [] (ap (λ (b : Bool). short values (format .count file) || b) (lt-ltb _ _ l) ∙ or-true (short values (format .count file)))
+    pub refuses-cares : cares < format .count file → 4 ≡ readRefuses format file values cares
+    refuses-cares h = four-holds (fileConditions format file) tt is-short e (second-short values cares (format .count file) h)
 
-    pub read-passes : format .count file ≤ values → format .count file ≤ cares → readRefuses format file values cares ≡ 0
-    read-passes l m = read-is e ∙ first-passes shortOfIt 4 [] (ap₂ _||_ (le-ltb _ _ l) (le-ltb _ _ m))
+    pub refuses-none : format .count file ≤ values → format .count file ≤ cares → 0 ≡ readRefuses format file values cares
+    refuses-none v w = four-passes (fileConditions format file) tt is-short e (neither-short values cares (format .count file) v w)
 
-  -- where it refuses nothing
+  -- where nothing is refused
   pub read-accepted : readRefuses format file values cares ≡ 0 → AcceptedFile format file
-  read-accepted e = accepted-file format file (none-in-front (fileConditions format file) (when shortOfIt 4 ∷ []) e)
+  read-accepted e = accepted-file format file (four-none (fileConditions format file) tt is-short e .0)
 
 -- ---- an answer of Read
 
 -- a width and a count: nothing refuses, and they are the file's
 pub record Given (format : Format) (file values cares : List ℕ) (n count : ℕ) : Type 0 where
-  pub refuses-none : readRefuses format file (length values) (length cares) ≡ 0
+  pub not-refused : readRefuses format file (length values) (length cares) ≡ 0
   pub width-is : n ≡ widthIn file
   pub count-is : count ≡ format .count file
 
@@ -147,4 +153,4 @@ pub read-gives : {format : Format} {file values cares values′ cares′ : List 
     → Given format file values cares n count
 read-gives {format} {file} {values} {cares} {n = n} {count} p =
     let a = answered-gives (readRefuses format file (length values) (length cares)) (record { width = n; count = count }) (widthAndCount format file) (p .answer) in
-    record { refuses-none = a .0; width-is = ap (λ (x : WidthAndCount). x .width) (a .1); count-is = ap (λ (x : WidthAndCount). x .count) (a .1) }
+    record { not-refused = a .0; width-is = ap (λ (x : WidthAndCount). x .width) (a .1); count-is = ap (λ (x : WidthAndCount). x .count) (a .1) }

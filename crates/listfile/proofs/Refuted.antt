@@ -59,12 +59,12 @@ module _ (values cares values′ cares′ : List ℕ) where
 
   -- the empty list, for a file with a byte more
   pub longer-file : (n count : ℕ) → Reads oneByteCount (1 ∷ 0 ∷ 0 ∷ []) values cares values′ cares′ (readback.List n count) → ⊥
-  longer-file n count p = let z : _≡_ {A = ℕ} 10 0 = read-gives p .refuses-none in omega arith
+  longer-file n count p = let z : _≡_ {A = ℕ} 10 0 = read-gives p .not-refused in omega arith
 
 -- the second place written, where the file has one row
 pub place-past-count : (cares cares′ : List ℕ) → Reads oneByteCount (1 ∷ 1 ∷ 0 ∷ 0 ∷ []) (5 ∷ 5 ∷ []) cares (0 ∷ 0 ∷ []) cares′ (readback.List 1 1) → ⊥
 place-past-count cares cares′ p =
-    let holds = p .values-are ∙ ap (λ (k : ℕ). written k (0 ∷ []) (5 ∷ 5 ∷ [])) (read-gives p .refuses-none) in
+    let holds = p .values-are ∙ ap (λ (k : ℕ). written k (0 ∷ []) (5 ∷ 5 ∷ [])) (read-gives p .not-refused) in
     let z : _≡_ {A = ℕ} 0 5 = ap (λ (l : List ℕ). getD l 1 0) holds in omega arith
 
 -- a place written, where the file has no byte

@@ -13,7 +13,7 @@ use Rattle.cube.specs.Words.{rowsOf}
 use Rattle.cube.specs.Calls.{badWidth, short, unequalLengths, mostRows, tooManyRows, badRow, when, firstOf, listConditions, gives, answered, written}
 use Rattle.cube.specs.declared.Counted.{Counted}
 use Rattle.cube.specs.declared.Counted.the-variants.{Count}
-use Rattle.cube.proofs.Calls.{none-first, first-passes, none-in-front, conditions-pass, AcceptedList, accepted-list, refuses-gives, same-value, none-refuses, listed-count, listed-front, listed-counts}
+use Rattle.cube.proofs.Calls.{first-passes, conditions-pass, AcceptedList, refuses-gives, same-value, none-refuses, listed-count, listed-front, listed-counts}
 use Rattle.cube.proofs.Lists.{rows-length}
 use Rattle.listfile.specs.File.{oneByteCount, fileLength, fileOf, widthIn, valuesIn, caresIn}
 use Rattle.listfile.specs.Write.{writeRefuses, Writes}
@@ -22,18 +22,16 @@ use Rattle.listfile.specs.Theorems.{ComesBack, WrittenComesBack, SameByt
 use Rattle.listfile.specs.declared.ReadBack.{ReadBack}
 use Rattle.listfile.specs.declared.ReadBack.the-variants as readback
 use Rattle.listfile.proofs.Theorems.{file-length}
-use Rattle.listfile.proofs.Files.{values-in-file, cares-in-file, values-length, cares-length, file-of-parts, AcceptedFile, file-passes, read-passes, read-accepted, read-gives}
+use Rattle.listfile.proofs.Files.{values-in-file, cares-in-file, values-length, cares-length, file-of-parts, write-accepted, AcceptedFile, file-passes, refuses-none, read-accepted, read-gives}
 
 -- ---- written, then read
 
 module _ (n : ℕ) (vs ws out : List ℕ) (e : writeRefuses oneByteCount n vs ws (length out) ≡ 0) where
   good : badWidth n ≡ false
-  good = none-first (badWidth n) 0 _ e .0
+  good = write-accepted oneByteCount n vs ws (length out) e .0
 
   list : AcceptedList n vs ws
-  list =
-      accepted-list n vs ws
-      (none-in-front (listConditions n vs ws) (when (short (length out) (fileLength oneByteCount (length (rowsOf vs ws)))) 4 ∷ []) (none-first (badWidth n) 0 _ e .1))
+  list = write-accepted oneByteCount n vs ws (length out) e .1
 
   abbrev file : List ℕ
   file = fileOf oneByteCount n vs ws
@@ -59,7 +57,9 @@ module _ (n : ℕ) (vs ws out : List ℕ) (e : writeRefuses oneByteCount n vs ws
   module _ (values cares values′ cares′ : List ℕ) (l : length vs ≤ length values) (m : length vs ≤ length cares) where
     passes : readRefuses oneByteCount file (length values) (length cares) ≡ 0
     passes =
-        read-passes oneByteCount file (length values) (length cares) (file-passes oneByteCount file file-accepted) (omega (arith, count-in-file, l)) (omega (arith, count-in-file, m))
+        sym
+        (refuses-none oneByteCount file (length values) (length cares) (file-passes oneByteCount file file-accepted) (omega (arith, count-in-file, l))
+        (omega (arith, count-in-file, m)))
 
     comes-back : (r : ReadBack) → Reads oneByteCount file values cares values′ cares′ r → ComesBack n vs ws values′ cares′ r
     comes-back r p = record {
@@ -122,7 +122,7 @@ module _ (file : List ℕ) (few : oneByteCount .count file ≤ mostRows) (a : Ac
 
 module _ (file values cares values′ cares′ : List ℕ) (n count : ℕ) (p : Reads oneByteCount file values cares values′ cares′ (readback.List n count)) where
   none : readRefuses oneByteCount file (length values) (length cares) ≡ 0
-  none = read-gives p .refuses-none
+  none = read-gives p .not-refused
 
   file-is : AcceptedFile oneByteCount file
   file-is = read-accepted oneByteCount file (length values) (length cares) none
@@ -145,4 +145,4 @@ module _ (file values cares values′ cares′ : List ℕ) (n count : ℕ) (p : 
       (subst (λ (l : List ℕ). Writes oneByteCount n l (take count cares′) out out′ r) values-read w)))
 
 pub read-is-written-again : ReadIsWrittenAgain
-read-is-written-again file values cares values′ cares′ n count p out out′ r l w = again file values cares values′ cares′ n count p out out′ r l w
+read-is-written-again = again

@@ -1,4 +1,4 @@
--- The theorem of `specs/Theorems.antt`: the file is the header, the values and the cares one after another, so a position in it is one in one of the three.
+-- `Layout` of `specs/Theorems.antt`: the file is the header, the values and the cares one after another, so a position in it is one in one of the three.
 -- Assumes nothing.
 use mathlib.Core.Path.{_≡_, refl, ap, _∙_}
 use mathlib.Core.List.{List, _++_}

@@ -10,7 +10,7 @@ use Rattle.listfile.specs.File.{oneByteCount, widthIn, valuesIn, caresIn
 use Rattle.listfile.specs.Read.{fileConditions, readRefuses, widthAndCount, Reads}
 use Rattle.listfile.specs.Steps.{Readable}
 use Rattle.listfile.specs.declared.ReadBack.the-variants as readback
-use Rattle.listfile.proofs.Files.{accepted-file, read-refuses, short-values, short-cares, read-passes}
+use Rattle.listfile.proofs.Files.{accepted-file, refuses-file, refuses-values, refuses-cares, refuses-none}
 use Rattle.listfile.proofs.read.Statement.{statement}
 use Rattle.listfile.proofs.read.Tie as tie
 
@@ -19,38 +19,38 @@ module _ (file values cares : List ℕ) where
   refusal = readRefuses oneByteCount file (length values) (length cares)
 
   -- a refusal leaves both arrays
-  refused : (k : ℕ) → refusal ≡ suc k → Reads oneByteCount file values cares values cares (readback.Refused (suc k))
-  refused k e = record {
-    answer = ap (λ (i : ℕ). answered i (widthAndCount oneByteCount file)) (sym e);
-    values-are = ap (λ (i : ℕ). written i (valuesIn oneByteCount file) values) (sym e);
-    cares-are = ap (λ (i : ℕ). written i (caresIn oneByteCount file) cares) (sym e);
+  refused : (k : ℕ) → k ≡ refusal → (k ≡ 0 → ⊥) → Reads oneByteCount file values cares values cares (readback.Refused k)
+  refused zero e h = absurd (h refl)
+  refused (suc k) e h = record {
+    answer = ap (λ (i : ℕ). answered i (widthAndCount oneByteCount file)) e;
+    values-are = ap (λ (i : ℕ). written i (valuesIn oneByteCount file) values) e;
+    cares-are = ap (λ (i : ℕ). written i (caresIn oneByteCount file) cares) e;
     few = λ z. absurd (omega (arith, e, z));
   }
 
-  refuses-file : (k : ℕ) → k ≡ firstOf (fileConditions oneByteCount file) → (k ≡ 0 → ⊥) → Reads oneByteCount file values cares values cares (readback.Refused k)
-  refuses-file zero e h = absurd (h refl)
-  refuses-file (suc k) e h = refused k (read-refuses oneByteCount file (length values) (length cares) k (sym e))
+  bad-file : (k : ℕ) → k ≡ firstOf (fileConditions oneByteCount file) → (k ≡ 0 → ⊥) → Reads oneByteCount file values cares values cares (readback.Refused k)
+  bad-file k e h = refused k (refuses-file oneByteCount file (length values) (length cares) k e h) h
 
   module _ (e : firstOf (fileConditions oneByteCount file) ≡ 0) (count : ℕ) (count-is : count ≡ oneByteCount .count file) where
     few-values : length values < count → Reads oneByteCount file values cares values cares (readback.Refused 4)
-    few-values l = refused 3 (short-values oneByteCount file (length values) (length cares) e (omega (arith, l, count-is)))
+    few-values l = refused 4 (refuses-values oneByteCount file (length values) (length cares) e (omega (arith, l, count-is))) (λ z. omega arith)
 
     few-cares : length cares < count → Reads oneByteCount file values cares values cares (readback.Refused 4)
-    few-cares l = refused 3 (short-cares oneByteCount file (length values) (length cares) e (omega (arith, l, count-is)))
+    few-cares l = refused 4 (refuses-cares oneByteCount file (length values) (length cares) e (omega (arith, l, count-is))) (λ z. omega arith)
 
     module _ (l : count ≤ length values) (m : count ≤ length cares) where
       readable : Readable file values cares
       readable = record { whole = accepted-file oneByteCount file e .whole; values-room = omega (arith, l, count-is); cares-room = omega (arith, m, count-is) }
 
-      passes : refusal ≡ 0
-      passes = read-passes oneByteCount file (length values) (length cares) e (omega (arith, l, count-is)) (omega (arith, m, count-is))
+      passes : 0 ≡ refusal
+      passes = refuses-none oneByteCount file (length values) (length cares) e (omega (arith, l, count-is)) (omega (arith, m, count-is))
 
       done : (values′ cares′ : List ℕ) (n : ℕ) → n ≡ widthIn file → count ≤ mostRows → values′ ≡ written 0 (valuesIn oneByteCount file) values
           → cares′ ≡ written 0 (caresIn oneByteCount file) cares → Reads oneByteCount file values cares values′ cares′ (readback.List n count)
       done values′ cares′ n n-is few vs-are ws-are = record {
-        answer = ap₂ (λ (x y : ℕ). gives (record { width = x; count = y })) n-is count-is ∙ ap (λ (i : ℕ). answered i (widthAndCount oneByteCount file)) (sym passes);
-        values-are = vs-are ∙ ap (λ (i : ℕ). written i (valuesIn oneByteCount file) values) (sym passes);
-        cares-are = ws-are ∙ ap (λ (i : ℕ). written i (caresIn oneByteCount file) cares) (sym passes);
+        answer = ap₂ (λ (x y : ℕ). gives (record { width = x; count = y })) n-is count-is ∙ ap (λ (i : ℕ). answered i (widthAndCount oneByteCount file)) passes;
+        values-are = vs-are ∙ ap (λ (i : ℕ). written i (valuesIn oneByteCount file) values) passes;
+        cares-are = ws-are ∙ ap (λ (i : ℕ). written i (caresIn oneByteCount file) cares) passes;
         few = λ z. omega (arith, few, count-is);
       }
 
@@ -64,7 +64,7 @@ file-refusal-requires : tie.Need-file-refusal-requires
 file-refusal-requires c κs = search needs
 
 returns : tie.Need-returns
-returns c = let s = c .before .before .before .before .before .args in refuses-file (s .file .now) (s .values .now) (s .cares .now) _ (c .before .file-refusal .ensures) (c .if1 .taken)
+returns c = let s = c .before .before .before .before .before .args in bad-file (s .file .now) (s .values .now) (s .cares .now) _ (c .before .file-refusal .ensures) (c .if1 .taken)
 
 count-in-requires : tie.Need-count-in-requires
 count-in-requires c κs = header-there c
