@@ -3,15 +3,15 @@
 use mathlib.Core.Path.{_≡_, refl, sym, ap, ap₂, _∙_, subst}
 use mathlib.Core.Bool.{Bool, true, false, cond, not, _&&_, _||_, or-true, true≢false}
 use mathlib.Core.List.{List, [], _∷_, _++_}
-use Prim.Native.Nat.{ℕ, zero, suc, _^_, _<_, _≤_}
+use Prim.Native.Nat.{ℕ, zero, suc, _-_, _^_, _<_, _≤_}
 use native.Mathlib.Nat.{pow-le-pow-right}
 use native.Mathlib.Omega.{arith}
 use lib.Dec.{T, eqb, ltb, lit<}
 use lib.ListN.{length, take, drop}
 use lib.Pow.{pow-mono}
-use borrow.Author.Tests.{ltb-false, lt-ltb, le-ltb, eqb-true, not-false}
+use borrow.Author.Tests.{ltb-false, lt-ltb, le-ltb, eq-eqb, eqb-true, not-false}
 use Rattle.cube.specs.Words.{rowsOf, prime, essential, primesOf, essentialsOf}
-use Rattle.cube.specs.Calls.{widest, badWidth, badLength, short, unequalLengths, mostRows, tooManyRows, badRow, Condition, when, firstOf, tableConditions, listConditions, Answer, refuses, gives, answered, written, Listed}
+use Rattle.cube.specs.Calls.{widest, badWidth, badLength, badCell, short, unequalLengths, mostRows, tooManyRows, badRow, Condition, when, firstOf, tableConditions, listConditions, Answer, refuses, gives, answered, written, Listed}
 use Rattle.cube.specs.declared.Counted.{Counted}
 use Rattle.cube.specs.declared.Counted.the-variants.{Count, Refused}
 use Rattle.numbers.specs.Lent.{Puts}
@@ -26,11 +26,17 @@ pub neither : (a b : Bool) → (a || b) ≡ false → (a ≡ false) × (b ≡ fa
 neither false b e = (refl, e)
 neither true b e = absurd (true≢false e)
 
+width-from : (n : ℕ) → badWidth n ≡ false → 1 ≤ n
+width-from n e = ltb-false n 1 (neither (ltb n 1) (ltb widest n) e .0)
+
 pub width-to : (n : ℕ) → badWidth n ≡ false → n ≤ widest
 width-to n e = ltb-false widest n (neither (ltb n 1) (ltb widest n) e .1)
 
 pub codes-most : (n : ℕ) → n ≤ widest → 2 ^ n ≤ 2 ^ widest
 codes-most n l = pow-mono l
+
+pub code-pairs-most : (n : ℕ) → n ≤ widest → 2 ^ (n - 1) ≤ 2 ^ (widest - 1)
+code-pairs-most n l = let m : n - 1 ≤ widest - 1 = omega arith in pow-mono m
 
 pub cubes-most : (n : ℕ) → n ≤ widest → 3 ^ n ≤ 3 ^ widest
 cubes-most n l = pow-le-pow-right {n = 3} (lit< tt) l
@@ -130,6 +136,7 @@ module _ (a b needed : ℕ) where
 -- ---- a table that is not refused
 
 pub record Accepted (n : ℕ) (t : List ℕ) : Type 0 where
+  pub from : 1 ≤ n
   pub to : n ≤ widest
   pub cells : length t ≡ 2 ^ n
 
@@ -139,9 +146,16 @@ module _ (n : ℕ) (t : List ℕ) where
       let a = none-first (badWidth n) 0 _ e in
       let b = none-first (badLength n t) 1 _ (a .1) in
       record {
+        from = width-from n (a .0);
         to = width-to n (a .0);
         cells = eqb-true (length t) (2 ^ n) (not-false (eqb (length t) (2 ^ n)) (b .0));
       }
+
+  -- a table of 2^n cells is refused for a cell alone
+  pub cells-left : badWidth n ≡ false → length t ≡ 2 ^ n → firstOf (tableConditions n t) ≡ firstOf (when (badCell t) 3 ∷ [])
+  cells-left w e =
+      first-passes (badWidth n) 1 (when (badLength n t) 2 ∷ when (badCell t) 3 ∷ []) w
+      ∙ first-passes (badLength n t) 2 (when (badCell t) 3 ∷ []) (ap not (eq-eqb (length t) (2 ^ n) e))
 
   -- the conditions of a call after those of the table
   pub table-passes : (rest : List Condition) → firstOf (tableConditions n t) ≡ 0 → firstOf (tableConditions n t ++ rest) ≡ firstOf rest

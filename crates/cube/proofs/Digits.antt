@@ -150,7 +150,7 @@ module _ (n x d : ℕ) (l : d < 3) where
   contained-at-r q = ap₂ (λ (i j : ℕ). fits i (q % 3) && contained n (q / 3) j) (last-digit x d l) (rest-digits x d l)
 
 -- a code written as c * 2 + b
-matches-more : (n q c b : ℕ) → b < 2 → cubeMatches (suc n) q (c * 2 + b) ≡ (fits (q % 3) b && cubeMatches n (q / 3) c)
+pub matches-more : (n q c b : ℕ) → b < 2 → cubeMatches (suc n) q (c * 2 + b) ≡ (fits (q % 3) b && cubeMatches n (q / 3) c)
 unfolding cubeMatches
 matches-more n q c b l = ap₂ (λ (x y : ℕ). fits (q % 3) x && cubeMatches n (q / 3) y) (last-bit c b l) (rest-bits c b l)
 

@@ -4,14 +4,14 @@ use mathlib.Core.Path.{_≡_, refl, ap, subst, subst⁻¹}
 use mathlib.Core.Logic.{_⊎_, inl, inr, ⊎-elim}
 use mathlib.Core.Bool.{Bool, true, not, _&&_, _||_}
 use mathlib.Core.List.{List, [], _∷_}
-use Prim.Native.Nat.{ℕ, suc, _+_, _^_, _≤_}
+use Prim.Native.Nat.{ℕ, suc, _+_, _^_, _<_, _≤_}
 use native.Mathlib.Omega.{arith}
-use lib.Dec.{T, ltb, leb, leb→le, ltb→lt}
+use lib.Dec.{T, ltb, leb, leb→le, ltb→lt, lt→ltb}
 use lib.ListN.{length}
 use Rattle.numbers.specs.Below.{every}
 use Rattle.cube.specs.Words.{onSet, Row, Cover, rowMatches, formed, rowLiterals, eachRow, allFormed, coverMatches, coverLiterals, implements, cubeMatches, cubeLiterals, numberOf, implicant}
-use Rattle.numbers.proofs.Bools.{and-l, and-r, and-i, or-e, or-l, or-r, imp-e, nand-e}
-use Rattle.numbers.proofs.Below.{every-at}
+use Rattle.numbers.proofs.Bools.{and-l, and-r, and-i, or-e, or-l, or-r, imp-e, nand-e, nand-i}
+use Rattle.numbers.proofs.Below.{every-at, every-by}
 use Rattle.cube.proofs.Implicants.{implicant-by}
 use Rattle.cube.proofs.Rows.{one-to-one}
 use Rattle.cube.proofs.Theorems.{implements-on, implements-off}
@@ -38,6 +38,22 @@ apartFrom n t c (d ∷ ds) = apart n t c (d .code) && apartFrom n t c ds
 unfoldable pub independent : ℕ → List ℕ → List Mark → Bool
 independent n t [] = true
 independent n t (m ∷ ms) = ((ltb (m .code) (2 ^ n) && onSet t (m .code)) && (leastRight n t m && apartFrom n t (m .code) ms)) && independent n t ms
+
+-- codes are apart, and one more mark is independent of others
+pub apart-by : (n : ℕ) (t : List ℕ) (c d : ℕ) → ((p : ℕ) → T (implicant n t p) → T (cubeMatches n p c) → T (cubeMatches n p d) → ⊥) → T (apart n t c d)
+apart-by n t c d f = every-by (3 ^ n) (λ p. not (implicant n t p) || not (cubeMatches n p c && cubeMatches n p d)) λ p l.
+    nand-i (implicant n t p) (cubeMatches n p c && cubeMatches n p d) λ i m.
+    f p i (and-l (cubeMatches n p c) (cubeMatches n p d) m) (and-r (cubeMatches n p c) (cubeMatches n p d) m)
+
+pub independent-more : (n : ℕ) (t : List ℕ) (m : Mark) (ms : List Mark) → m .code < 2 ^ n → T (onSet t (m .code)) → T (leastRight n t m) → T (apartFrom n t (m .code) ms)
+    → T (independent n t ms) → T (independent n t (m ∷ ms))
+unfolding independent
+independent-more n t m ms l w b a i =
+    and-i ((ltb (m .code) (2 ^ n) && onSet t (m .code)) && (leastRight n t m && apartFrom n t (m .code) ms)) (independent n t ms)
+    (and-i (ltb (m .code) (2 ^ n) && onSet t (m .code)) (leastRight n t m && apartFrom n t (m .code) ms)
+    (and-i (ltb (m .code) (2 ^ n)) (onSet t (m .code)) (lt→ltb (m .code) (2 ^ n) l) w)
+    (and-i (leastRight n t m) (apartFrom n t (m .code) ms) b a))
+    i
 
 -- their least literals, summed
 unfoldable pub leastLiterals : List Mark → ℕ

@@ -13,5 +13,7 @@ pub mod Calls
 pub mod Lists
 pub mod McCluskey
 pub mod Covers
+pub mod Pairs
 pub mod Minimum
+pub mod OddOnes
 pub mod Basis

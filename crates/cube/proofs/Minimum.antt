@@ -1,10 +1,10 @@
--- What follows for every shortest list. Two of them are rivals of each other, so their counts agree; the wanted codes one by one are a rival, so there
--- are no more rows than codes; and a row that is not prime could be exchanged for a wider implicant with fewer literals. Assumes nothing.
+-- What follows for every shortest list. Two of them are rivals of each other, so their counts agree; the wanted codes in pairs are a rival, so there
+-- are no more rows than pairs; and a row that is not prime could be exchanged for a wider implicant with fewer literals. Assumes nothing.
 use mathlib.Core.Path.{_≡_, refl, subst, subst⁻¹}
 use mathlib.Core.Logic.{_⊎_, inl, inr, ⊎-elim}
 use mathlib.Core.Bool.{Bool, true, false, not, _&&_}
 use mathlib.Core.List.{List, [], _∷_, _++_, append-assoc}
-use Prim.Native.Nat.{ℕ, _^_, _<_, _≤_}
+use Prim.Native.Nat.{ℕ, _-_, _^_, _<_, _≤_}
 use native.Mathlib.Nat.{eq-or-lt-of-le}
 use native.Mathlib.Omega.{arith}
 use lib.Dec.{T}
@@ -19,7 +19,8 @@ use Rattle.cube.proofs.Implicants.{implicant-at, wider-implicant, wider
 use Rattle.cube.proofs.Rows.{one-to-one, row-of-matches, row-of-literals}
 use Rattle.cube.proofs.Theorems.{implements-on, implements-off, implements-by}
 use Rattle.cube.proofs.Independent.{sound, rows-sound}
-use Rattle.cube.proofs.Covers.{each-append, matches-append, literals-append, code-by-code}
+use Rattle.cube.proofs.Covers.{each-append, matches-append, literals-append}
+use Rattle.cube.proofs.Pairs.{pair-by-pair}
 
 no-more-rows : {r b rows bits : ℕ} → NoBetter r b rows bits → rows ≤ r
 no-more-rows (inl l) = omega arith
@@ -32,8 +33,8 @@ same-counts (inr x) (inl y) = absurd (omega (arith, x .0))
 same-counts (inr x) (inr y) = (x .0, omega (arith, x .1, y .1))
 
 module _ (n : ℕ) (t : List ℕ) where
-  pub minimum-rows : (a : Cover) → Minimum n t a → length a ≤ 2 ^ n
-  minimum-rows a m = let s = code-by-code n t in omega (arith, no-more-rows (m .least (s .list) (s .is-formed) (s .right)), s .rows)
+  pub minimum-rows : (a : Cover) → Minimum n t a → length a ≤ 2 ^ (n - 1)
+  minimum-rows a m = let s = pair-by-pair n t in omega (arith, no-more-rows (m .least (s .list) (s .is-formed) (s .right)), s .rows)
 
   -- ---- every row is prime
 

@@ -1,6 +1,7 @@
 // Primes, Essentials and Plan on one table. A term is printed as the papers have it, x1 first, `-` for untested.
 use cube::Counted;
 use plan::Planned;
+use spelling::MOST_CODE_PAIRS;
 use spelling::MOST_CODES;
 use spelling::MOST_CUBES;
 ghost use Prim.Native.Nat.{_≤_, _^_};
@@ -92,8 +93,8 @@ fn report_terms(n: usize, table: &[u8])
 
 // The counts of a shortest list of a table.
 fn report_plan(n: usize, table: &[u8]) {
-    let mut values = [0u8; MOST_CODES];
-    let mut cares = [0u8; MOST_CODES];
+    let mut values = [0u8; MOST_CODE_PAIRS];
+    let mut cares = [0u8; MOST_CODE_PAIRS];
     let planned = plan::plan(n, table, &mut values, &mut cares);
     crate::print::text(b"  plan ");
     match planned {

@@ -1,4 +1,4 @@
--- The totals of a shortest list are small: at most a row for each code, and for each row a tested bit for each variable. So they are read off Plan's
+-- The totals of a shortest list are small: at most a row for each pair of codes, and for each row a tested bit for each variable. So they are read off Plan's
 -- number. Assumes nothing.
 use mathlib.Core.Path.{_≡_, refl, ap₂}
 use mathlib.Core.List.{List}
@@ -7,7 +7,7 @@ use native.Mathlib.Nat.{mul-le-mul-right}
 use native.Mathlib.Omega.{arith}
 use lib.ListN.{length}
 use Rattle.cube.specs.Calls.{gives}
-use Rattle.cube.proofs.Calls.{codes-most}
+use Rattle.cube.proofs.Calls.{code-pairs-most}
 use Rattle.cube.proofs.Covers.{literals-most}
 use Rattle.cube.proofs.Minimum.{minimum-rows}
 use Rattle.plan.specs.Plan.{planAnswer, Plans}
@@ -25,10 +25,10 @@ module _ {n : ℕ} {t values cares values′ cares′ : List ℕ} where
       let accepted = not-refused n t values cares values′ cares′ rows bits p in
       let width = plannable n t (length values) (length cares) accepted .table .to in
       let most = minimum-rows n t (p .list) (p .minimum accepted) in (
-        omega (arith, rows-is n t values cares values′ cares′ rows bits p, codes-most n width),
+        omega (arith, rows-is n t values cares values′ cares′ rows bits p, code-pairs-most n width),
         omega (
           arith,
-          codes-most n width,
+          code-pairs-most n width,
           bits-is n t values cares values′ cares′ rows bits p,
           literals-most n (p .list),
           mul-le-mul-right (length (p .list)) width,

@@ -1,5 +1,5 @@
 -- What only the proofs of the functions for C need: an answer whose number fits the 32 bits that C gets. Assumes nothing.
-use Prim.Native.Nat.{_*_, _^_, _<_, _≤_}
+use Prim.Native.Nat.{_-_, _*_, _^_, _<_, _≤_}
 use Rattle.cube.specs.Calls.{widest, mostRows}
 use Rattle.cube.specs.declared.Counted.{Counted}
 use Rattle.cube.specs.declared.Counted.the-variants as counted
@@ -13,9 +13,9 @@ abbrev pub FewCounted : Counted → Type 0
 FewCounted (counted.Count k) = k < 2 ^ 31
 FewCounted (counted.Refused k) = Unit
 
--- totals whose number is far below 2^31: at most a row for each code, and a tested bit for each variable and row
+-- totals whose number is far below 2^31: at most a row for each pair of codes, and a tested bit for each variable and row
 abbrev pub FewTotals : Planned → Type 0
-FewTotals (planned.Rows r b) = (r ≤ 2 ^ widest) × (b ≤ 2 ^ widest * widest)
+FewTotals (planned.Rows r b) = (r ≤ 2 ^ (widest - 1)) × (b ≤ 2 ^ (widest - 1) * widest)
 FewTotals (planned.Refused k) = Unit
 
 -- a width and a row count in range

@@ -16,7 +16,7 @@ use Rattle.cube.specs.Calls.{widest}
 use Rattle.cube.specs.Minimum.{Minimum}
 use Rattle.numbers.proofs.Bools.{and-l, and-r, and-i, is-true, holds}
 use Rattle.numbers.proofs.Below.{those-ascend}
-use Rattle.cube.proofs.Calls.{codes-most, cubes-most, primes-most}
+use Rattle.cube.proofs.Calls.{code-pairs-most, cubes-most, primes-most}
 use Rattle.numbers.specs.Lent.{Puts}
 use Rattle.numbers.proofs.Fronts.{front-is}
 use Rattle.numbers.proofs.Lent.{puts-long, front-count, front-places}
@@ -84,8 +84,8 @@ picked-count picked cubes rows put = front-count put ∙ length-map (those rows 
 pub rows-most : (n : ℕ) (t : List ℕ) → n ≤ widest → (a : Arrays) → IsChart n t a → a .rows ≤ 3 ^ widest
 rows-most n t w a chart = omega (arith, chart .rows, primes-most n t, cubes-most n w)
 
-small-lists : (n : ℕ) → n ≤ widest → n * 2 ^ n < rowWeight
-small-lists n w = omega (arith, mul-le-mul-left n (codes-most n w))
+small-lists : (n : ℕ) → n ≤ widest → n * 2 ^ (n - 1) < rowWeight
+small-lists n w = omega (arith, mul-le-mul-left n (code-pairs-most n w))
 
 module _ (n : ℕ) (t : List ℕ) (width : n ≤ widest) (cells : length t ≡ 2 ^ n) (a : Arrays) (chart : IsChart n t a) (u : ℕ) (u-is : u ≡ wantedWord n t cells) (found : Solution)
     (light : Lightest (take (a .rows) (a .words)) (a .literals) u found) where
@@ -136,8 +136,8 @@ module _ (n : ℕ) (t : List ℕ) (width : n ≤ widest) (cells : length t ≡ 2
   count-is = length-map (map (cubeAt n t words (light .weights) of-chart) L) (rowOf n) ∙ length-map L (cubeAt n t words (light .weights) of-chart)
 
   -- the picked rows are no more than the places of a list
-  pub picked-most : length (those (a .rows) (member (found .picked))) ≤ 2 ^ widest
-  picked-most = omega (arith, count-is, minimum-rows n t list list-minimum, codes-most n width)
+  pub picked-most : length (those (a .rows) (member (found .picked))) ≤ 2 ^ (widest - 1)
+  picked-most = omega (arith, count-is, minimum-rows n t list list-minimum, code-pairs-most n width)
 
   weight-is : found .weight ≡ rowWeight * length list + coverLiterals n list
   unfolding list
@@ -146,7 +146,7 @@ module _ (n : ℕ) (t : List ℕ) (width : n ≤ widest) (cells : length t ≡ 2
   pub weight-most : rowWeight * length (those (a .rows) (member (found .picked))) ≤ found .weight
   weight-most = omega (arith, count-is, weight-is)
 
-  module _ (old cubes : List ℕ) (count : ℕ) (long : length old ≡ 2 ^ widest) (put : Puts (pickedCubes (found .picked) (a .cubes) (a .rows)) old 0 cubes count) where
+  module _ (old cubes : List ℕ) (count : ℕ) (long : length old ≡ 2 ^ (widest - 1)) (put : Puts (pickedCubes (found .picked) (a .cubes) (a .rows)) old 0 cubes count) where
     xs : List ℕ
     xs = pickedCubes (found .picked) (a .cubes) (a .rows)
 

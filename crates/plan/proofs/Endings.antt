@@ -1,7 +1,7 @@
 -- How Plan ends: it refuses and leaves both arrays as they were, or writes the chosen list. Assumes nothing.
 use mathlib.Core.Path.{_≡_, refl, sym, ap, ap₂, _∙_, subst⁻¹}
 use mathlib.Core.List.{List, [], _∷_, map, map-map}
-use Prim.Native.Nat.{ℕ, zero, suc, _^_, _<_, _≤_}
+use Prim.Native.Nat.{ℕ, zero, suc, _-_, _^_, _<_, _≤_}
 use native.Mathlib.Omega.{arith}
 use lib.Dec.{T}
 use lib.ListN.{length, length-map, take, getD}
@@ -13,7 +13,7 @@ use Rattle.cube.proofs.Rows.{number-of-row}
 use Rattle.numbers.specs.Lent.{Puts}
 use Rattle.numbers.proofs.Lent.{front-count, front-places}
 use Rattle.cube.proofs.Minimum.{minimum-rows}
-use Rattle.plan.specs.Plan.{planRefuses, totalsOf, ascending, Plans}
+use Rattle.plan.specs.Plan.{planPlaces, planRefuses, totalsOf, ascending, Plans}
 use Rattle.plan.specs.Steps.{rowsOfCubes, Chosen, SpelledInto}
 use Rattle.plan.specs.declared.Planned.the-variants.{Rows, Refused}
 use Rattle.plan.proofs.Refusals.{Plannable, plannable}
@@ -44,7 +44,7 @@ module _ (n : ℕ) (t values cares : List ℕ) where
     unfolding list
     rows-are = length-map qs (rowOf n) ∙ length-take-le count cubes (chosen .within)
 
-    pub count-most : count ≤ 2 ^ n
+    pub count-most : count ≤ 2 ^ (n - 1)
     unfolding list
     count-most = omega (arith, rows-are, minimum-rows n t list (chosen .minimum))
 
@@ -61,7 +61,7 @@ module _ (n : ℕ) (t values cares : List ℕ) where
       places = plannable n t (length values) (length cares) none
 
       -- an array afterwards: the list's numbers from the first place on, and after them what was there
-      spelled : (f : ℕ → ℕ) (old new : List ℕ) → 2 ^ n ≤ length old → Puts (map f qs) old 0 new count → new ≡ written refusal (map f qs) old
+      spelled : (f : ℕ → ℕ) (old new : List ℕ) → planPlaces n ≤ length old → Puts (map f qs) old 0 new count → new ≡ written refusal (map f qs) old
       spelled f old new l p = front-places p (omega (arith, count-most, front-count p)) ∙ ap (λ (i : ℕ). written i (map f qs) old) (sym none)
 
       pub plan-done : Plans n t values cares values′ cares′ (Rows count bits)

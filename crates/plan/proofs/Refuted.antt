@@ -16,7 +16,8 @@ use Rattle.plan.specs.Plan.{planRefuses, Totals, totalsOf, planAnswer, a
 use Rattle.plan.specs.Theorems.{Held}
 use Rattle.plan.specs.declared.Planned.{Planned}
 use Rattle.plan.specs.declared.Planned.the-variants.{Rows, Refused}
-use Rattle.plan.proofs.Answers.{accepted-refused, refused-by}
+use Rattle.plan.proofs.Answers.{not-refused, accepted-refused, refused-by}
+use Rattle.plan.proofs.Refusals.{Plannable, plannable}
 use Rattle.plan.proofs.Theorems.{arrays-hold}
 
 -- the rows and bits of a case
@@ -89,13 +90,28 @@ one-fixed-answer values cares values′ cares′ r d e p q =
     let z : _≡_ {A = ℕ} 0 1 = ap (λ (x : Totals). x .rows) (same-value (countsOf case-a) (countsOf case-b) (sym on-a ∙ on-b)) in
     omega arith
 
--- 4 with 64 places in each array, at width 6 with nothing wanted
-pub four-with-64-places : (values cares values′ cares′ : List ℕ) → length values ≡ 64 → length cares ≡ 64
+-- 4 with 32 places in each array, at width 6 with nothing wanted
+pub four-with-32-places : (values cares values′ cares′ : List ℕ) → length values ≡ 32 → length cares ≡ 32
     → Plans 6 (replicate 64 0) values cares values′ cares′ (Refused 4) → ⊥
 unfolding some badCell
-four-with-64-places values cares values′ cares′ v w p =
-    let enough : planRefuses 6 (replicate 64 0) 64 64 ≡ 0 = refl in
+four-with-32-places values cares values′ cares′ v w p =
+    let enough : planRefuses 6 (replicate 64 0) 32 32 ≡ 0 = refl in
     accepted-refused 6 (replicate 64 0) values cares values′ cares′ 4 p (ap₂ (λ (i j : ℕ). planRefuses 6 (replicate 64 0) i j) v w ∙ enough)
+
+-- any counts with 31 places in an array, at width 6 whatever the table and the other array
+module _ (t values cares values′ cares′ : List ℕ) (rows bits : ℕ) (p : Plans 6 t values cares values′ cares′ (Rows rows bits)) where
+  enough : Plannable 6 t (length values) (length cares)
+  enough = plannable 6 t (length values) (length cares) (not-refused 6 t values cares values′ cares′ rows bits p)
+
+  pub counts-with-31-values : length values ≡ 31 → ⊥
+  counts-with-31-values v = omega (arith, enough .enough-values)
+
+  pub counts-with-31-cares : length cares ≡ 31 → ⊥
+  counts-with-31-cares w = omega (arith, enough .enough-cares)
+
+-- more rows than pairs of codes, at width 6 whatever the table and the arrays
+pub thirty-three-rows : (t values cares values′ cares′ : List ℕ) (bits : ℕ) → Plans 6 t values cares values′ cares′ (Rows 33 bits) → ⊥
+thirty-three-rows t values cares values′ cares′ bits p = omega (arith, arrays-hold 6 t values cares values′ cares′ .counted 33 bits p .few)
 
 -- ---- wrong arrays
 
@@ -125,7 +141,7 @@ place-past-count p =
 pub written-on-refusal : (r : Planned) → Plans 0 (1 ∷ []) (7 ∷ []) (7 ∷ []) (0 ∷ []) (7 ∷ []) r → ⊥
 written-on-refusal r p = let z : _≡_ {A = ℕ} 0 7 = ap (λ (l : List ℕ). getD l 0 0) (p .values-are) in omega arith
 
--- 4 for arrays of any length, so of 63 places too, where every cell is 3
+-- 4 for arrays of any length, so of 31 places too, where every cell is 3
 pub four-before-three : (values cares values′ cares′ : List ℕ) → Plans 6 (replicate 64 3) values cares values′ cares′ (Refused 4) → ⊥
 unfolding some badCell
 four-before-three values cares values′ cares′ p =

@@ -4,7 +4,7 @@ use mathlib.Core.Path.{_≡_, refl, sym, ap, _∙_, subst, subst⁻¹}
 use mathlib.Core.Logic.{inl, inr, ⊎-elim}
 use mathlib.Core.Bool.{_&&_}
 use mathlib.Core.List.{List, [], _∷_, map}
-use Prim.Native.Nat.{ℕ, zero, suc, _+_, _*_, _^_, _<_, _≤_}
+use Prim.Native.Nat.{ℕ, zero, suc, _+_, _-_, _*_, _^_, _<_, _≤_}
 use native.Mathlib.Nat.{not-suc-le-zero, le-of-suc-le-suc}
 use native.Mathlib.Omega.{arith}
 use lib.Dec.{T, ltb, leb, lt→ltb, le→leb, leb→le}
@@ -18,7 +18,8 @@ use Rattle.cube.proofs.Implicants.{implicant-at, prime-implicant, prime-above}
 use Rattle.cube.proofs.Rows.{cube-lt, row-is-cube, row-literals, row-formed, row-of-matches, row-of-literals}
 use Rattle.cube.proofs.Theorems.{implements-on, implements-by}
 use Rattle.cube.proofs.Independent.{sound, rows-sound}
-use Rattle.cube.proofs.Covers.{literals-most, code-by-code}
+use Rattle.cube.proofs.Covers.{literals-most}
+use Rattle.cube.proofs.Pairs.{pair-by-pair}
 use Rattle.covering.specs.Weighted.{Within, Hits, weight, LeastCover}
 use Rattle.covering.proofs.Bounds.{hitter}
 use Rattle.matrix.specs.Sets.{has, In}
@@ -142,13 +143,13 @@ module _ (n : ℕ) (t words weights : List ℕ) (chart : ChartOf n t words weigh
   -- each wanted code has a row
   pub coverable : (c : ℕ) → c < 2 ^ n → T (onSet t c) → (i : ℕ) × ChartRow i × covers words i c
   coverable c l a =
-      let each = code-by-code n t in
+      let each = pair-by-pair n t in
       let s = selected (each .list) (rows-sound n t (each .list) (each .right) (each .list) (λ d x. x) (each .is-formed)) in
       hitter (covers words) (s .rows) c (s .within) (s .hits c l a (implements-on n t (each .list) (each .right) c l a))
 
   -- ---- the minimum selection's list is shortest
 
-  module _ (small : n * 2 ^ n < rowWeight) (u k : ℕ) (columns : (c : ℕ) → In u c → (c < 2 ^ n) × T (onSet t c)) (wanted : (c : ℕ) → c < 2 ^ n → T (onSet t c) → In u c)
+  module _ (small : n * 2 ^ (n - 1) < rowWeight) (u k : ℕ) (columns : (c : ℕ) → In u c → (c < 2 ^ n) × T (onSet t c)) (wanted : (c : ℕ) → c < 2 ^ n → T (onSet t c) → In u c)
       (L : List ℕ) (m : LeastCover (covers words) (weightOf weights) ChartRow (In u) L k) where
     -- no list that is right weighs less
     no-lighter : (rs : Cover) → T (allFormed n rs) → T (implements n t rs)
@@ -163,9 +164,9 @@ module _ (n : ℕ) (t words weights : List ℕ) (chart : ChartOf n t words weigh
           m .least (s .rows) (s .within) (λ c x. let d = columns c x in s .hits c (d .0) (d .1) (implements-on n t rs g c (d .0) (d .1))),
         )
 
-    few : length (listOf L) ≤ 2 ^ n
+    few : length (listOf L) ≤ 2 ^ (n - 1)
     few =
-        let s = code-by-code n t in
+        let s = pair-by-pair n t in
         rows-most n (length (listOf L)) (coverLiterals n (listOf L)) (length (s .list)) (coverLiterals n (s .list)) small (no-lighter (s .list) (s .is-formed) (s .right))
         (s .rows) (literals-most n (s .list))
 

@@ -2,17 +2,22 @@
 -- that list. Assumes nothing.
 use mathlib.Core.Path.{_≡_, refl, sym, ap, ap₂, _∙_, subst⁻¹}
 use mathlib.Core.List.{List, [], _∷_, _++_, map}
-use Prim.Native.Nat.{ℕ}
+use Prim.Native.Nat.{ℕ, _-_, _^_, _≤_}
+use native.Mathlib.Omega.{arith}
 use lib.Dec.{T}
 use lib.ListN.{length, length-map, drop}
 use Rattle.numbers.proofs.Fronts.{front-long, front-is, front-behind}
 use Rattle.cube.specs.Words.{Row, Cover, rowsOf, firstRows, coverLiterals, numberOf}
-use Rattle.cube.specs.Calls.{written}
-use Rattle.cube.specs.Minimum.{Minimum}
+use Rattle.cube.specs.Calls.{badCell, written}
+use Rattle.cube.specs.Minimum.{Minimum, oddOnes}
+use Rattle.cube.proofs.Calls.{first-passes, cells-left}
+use Rattle.cube.proofs.Minimum.{minimum-rows}
+use Rattle.cube.proofs.OddOnes.{filled}
 use Rattle.plan.specs.Plan.{planRefuses, ascending, valuesOf, caresOf, Plans}
-use Rattle.plan.specs.Theorems.{Held, Delivered, ArraysHold}
+use Rattle.plan.specs.Theorems.{Held, Delivered, ArraysHold, AllFilled}
 use Rattle.plan.specs.declared.Planned.{Planned}
 use Rattle.plan.specs.declared.Planned.the-variants.{Rows, Refused}
+use Rattle.plan.proofs.Refusals.{refuses-none, plannable}
 use Rattle.plan.proofs.Answers.{not-refused, rows-is, bits-is, accepted-refused}
 
 -- the values and the cares of a list are the list
@@ -53,6 +58,7 @@ module _ (n : ℕ) (t values cares values′ cares′ : List ℕ) where
       bit-count = ap (coverLiterals n) list-is ∙ sym (bits-is n t values cares values′ cares′ rows bits p);
       values-behind = front-behind (valuesOf (p .list)) values (counts (λ r. r .value)) values-are;
       cares-behind = front-behind (caresOf (p .list)) cares (counts (λ r. r .care)) cares-are;
+      few = subst⁻¹ (λ (k : ℕ). k ≤ 2 ^ (n - 1)) (rows-is n t values cares values′ cares′ rows bits p) (minimum-rows n t (p .list) (p .minimum accepts));
     }
 
   pub arrays-hold : ArraysHold n t values cares values′ cares′
@@ -62,3 +68,14 @@ module _ (n : ℕ) (t values cares values′ cares′ : List ℕ) where
           → Delivered n t values cares values′ cares′ r
       delivered (Rows rows bits) e p = record { rows = rows; bits = bits; answer = refl; held = held rows bits p }
       delivered (Refused k) e p = absurd (accepted-refused n t values cares values′ cares′ k p e)
+
+-- ---- the table that fills all places
+
+pub all-filled : (n : ℕ) (values cares values′ cares′ : List ℕ) → AllFilled n values cares values′ cares′
+all-filled n values cares values′ cares′ = record {
+  accepted = λ w v c. sym (refuses-none n (oddOnes n) (length values) (length cares) (cells-left n (oddOnes n) w (filled n .cells) ∙ first-passes (badCell (oddOnes n)) 3 [] (filled n .good)) v c);
+  filled = λ rows bits p.
+      let h = held n (oddOnes n) values cares values′ cares′ rows bits p in
+      let width = plannable n (oddOnes n) (length values) (length cares) (accepts n (oddOnes n) values cares values′ cares′ rows bits p) .table .from in
+      omega (arith, h .few, h .row-count, filled n .rows width (firstRows rows values′ cares′) (h .minimum .formed) (h .minimum .right));
+}

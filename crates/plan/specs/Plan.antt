@@ -1,9 +1,10 @@
 -- Plan: "a list into a value array and a care array, from the first place of each, ascending by cube number; the answer is the number of rows and
--- the sum of their tested bits. [..] Refuses 1, 2, 3, then 4 when either array is below 2^n places." And demand 3, as one record. Assumes nothing.
+-- the sum of their tested bits. [..] Refuses 1, 2, 3, then 4 when either array is below" 2^(n−1) places: "4 is given only below 2^(n−1) places" (document 02).
+-- And demand 3, as one record. Assumes nothing.
 use mathlib.Core.Path.{_≡_}
 use mathlib.Core.Bool.{Bool, true, _&&_, _||_}
 use mathlib.Core.List.{List, [], _∷_, _++_, map}
-use Prim.Native.Nat.{ℕ, suc, _^_}
+use Prim.Native.Nat.{ℕ, suc, _-_, _^_}
 use lib.Dec.{T, leb}
 use lib.ListN.{length}
 use Rattle.cube.specs.Words.{Cover, coverLiterals, numberOf}
@@ -12,9 +13,9 @@ use Rattle.cube.specs.Minimum.{Minimum}
 use Rattle.plan.specs.declared.Planned.{Planned}
 use Rattle.plan.specs.declared.Planned.the-variants as planned
 
--- the places that each array needs
+-- "only below 2^(n−1) places": the places that each array needs
 abbrev pub planPlaces : ℕ → ℕ
-planPlaces n = 2 ^ n
+planPlaces n = 2 ^ (n - 1)
 
 -- the number that Plan refuses with, or 0, for arrays of these lengths
 abbrev pub planRefuses : ℕ → List ℕ → ℕ → ℕ → ℕ

@@ -1,13 +1,15 @@
--- Demand 3's sentence about the arrays: what follows from Plan's promise for the first places of both, as many as the row count returned.
--- `proofs/Theorems.antt` proves it. Assumes nothing.
+-- Demand 3's sentence about the arrays, and document 02's about how many rows they hold: what follows from Plan's promise for the first places of both,
+-- as many as the row count returned; and that Plan asks for no place too many. `proofs/Theorems.antt` proves it. Assumes nothing.
 use mathlib.Core.Path.{_≡_}
+use mathlib.Core.Bool.{false}
 use mathlib.Core.List.{List, map}
-use Prim.Native.Nat.{ℕ, _≤_}
+use Prim.Native.Nat.{ℕ, _-_, _^_, _≤_}
 use lib.Dec.{T}
 use lib.ListN.{length, drop}
 use Rattle.cube.specs.Words.{firstRows, coverLiterals, numberOf}
-use Rattle.cube.specs.Minimum.{Minimum}
-use Rattle.plan.specs.Plan.{planRefuses, ascending, Plans}
+use Rattle.cube.specs.Calls.{badWidth}
+use Rattle.cube.specs.Minimum.{Minimum, oddOnes}
+use Rattle.plan.specs.Plan.{planPlaces, planRefuses, ascending, Plans}
 use Rattle.plan.specs.declared.Planned.{Planned}
 use Rattle.plan.specs.declared.Planned.the-variants.{Rows}
 
@@ -26,6 +28,8 @@ pub record Held (n : ℕ) (t values cares values′ cares′ : List ℕ) (rows b
   -- "On success, places past the count are unchanged."
   pub values-behind : drop rows values′ ≡ drop rows values
   pub cares-behind : drop rows cares′ ≡ drop rows cares
+  -- "a shortest list has at most 2^(n−1) rows [..] Plan is to guarantee it for every accepted table" (document 02), however long the arrays are
+  pub few : rows ≤ 2 ^ (n - 1)
 
 -- the answer to a call that is not refused: two counts, and the arrays hold their list
 pub record Delivered (n : ℕ) (t values cares values′ cares′ : List ℕ) (r : Planned) : Type 0 where
@@ -41,3 +45,9 @@ pub record ArraysHold (n : ℕ) (t values cares values′ cares′ : List ℕ) :
   -- "For every accepted table, and whatever the two arrays held before": there are counts
   pub accepted : (r : Planned) → planRefuses n t (length values) (length cares) ≡ 0 → Plans n t values cares values′ cares′ r
       → Delivered n t values cares values′ cares′ r
+
+-- No smaller number of places would do: on the table of `Filled`, which is never refused for itself, a call fills all places that Plan asks for.
+pub record AllFilled (n : ℕ) (values cares values′ cares′ : List ℕ) : Type 0 where
+  pub accepted : badWidth n ≡ false → planPlaces n ≤ length values → planPlaces n ≤ length cares
+      → planRefuses n (oddOnes n) (length values) (length cares) ≡ 0
+  pub filled : (rows bits : ℕ) → Plans n (oddOnes n) values cares values′ cares′ (Rows rows bits) → rows ≡ planPlaces n

@@ -1,13 +1,13 @@
 // Plan: a shortest list for a table. The chart's rows get the weight 10,000 + tested bits, a minimum cover is searched
 // for, and its cubes are spelled into the two arrays.
 //
-//     let mut values = [0u8; 4];
-//     let mut cares = [0u8; 4];
+//     let mut values = [0u8; 2];
+//     let mut cares = [0u8; 2];
 //     plan::plan(2, &[0, 1, 1, 1], &mut values, &mut cares)   // 2 rows, 2 bits: 1- and -1, values 2 1, cares 2 1
 use matrix::columns;
 use matrix::rows;
 use search::Solution;
-use spelling::MOST_CODES;
+use spelling::MOST_CODE_PAIRS;
 use spelling::MOST_CUBES;
 ghost use mathlib.Core.Path.{_≡_};
 ghost use Prim.Native.Nat.{ℕ, _+_, _<_, _≤_, _^_};
@@ -30,7 +30,7 @@ pub enum Planned {
 pub struct CubeList {
     pub count: usize,
     pub bits: usize,
-    pub cubes: [u16; MOST_CODES],
+    pub cubes: [u16; MOST_CODE_PAIRS],
 }
 
 // Fills in the weights of the first rows by their tested bits.
@@ -103,7 +103,7 @@ pub fn shortest(n: usize, table: &[u8]) -> CubeList
         chart.rows,
         chart_arrays::row_columns(table, 0, 0),
     );
-    let mut cubes = [0u16; MOST_CODES];
+    let mut cubes = [0u16; MOST_CODE_PAIRS];
     let count = list_picked(&found.picked, &chart.cubes, chart.rows, &mut cubes);
     CubeList {
         count,
@@ -120,7 +120,7 @@ fn plan_refusal(n: usize, table: &[u8], values: usize, cares: usize) -> u8
     if k != 0 {
         return k;
     }
-    let places = spelling::codes(n);
+    let places = spelling::codes(n - 1);
     if values < places {
         return 4;
     }

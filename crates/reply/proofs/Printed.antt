@@ -1,13 +1,12 @@
 -- What is printed is what `text` defines: for a table by Plan's answer, for a state by what was kept, and for a whole input. Assumes nothing.
 use mathlib.Core.Path.{_≡_, refl, sym, ap, ap₂, _∙_, subst}
 use mathlib.Core.List.{List, []}
-use Prim.Native.Nat.{ℕ, zero, suc, _≤_}
+use Prim.Native.Nat.{ℕ, zero, suc, _-_, _^_, _≤_}
 use native.Mathlib.Omega.{arith}
 use lib.ListN.{length}
 use Rattle.cube.specs.Words.{firstRows}
-use Rattle.cube.specs.Calls.{firstOf, tableConditions, Answer, refuses, gives}
-use Rattle.cube.proofs.Calls.{accepted, codes-most, refuses-gives, same-value}
-use Rattle.cube.proofs.Minimum.{minimum-rows}
+use Rattle.cube.specs.Calls.{widest, firstOf, tableConditions, Answer, refuses, gives}
+use Rattle.cube.proofs.Calls.{accepted, code-pairs-most, refuses-gives, same-value}
 use Rattle.plan.specs.Plan.{planRefuses, Plans}
 use Rattle.plan.specs.declared.Planned.the-variants.{Rows, Refused}
 use Rattle.plan.proofs.Refusals.{refuses-table, refuses-none}
@@ -23,14 +22,14 @@ use Rattle.text.proofs.Stepping.{stepping}
 use Rattle.reply.specs.Reply.{MayWrite, PrintsInput}
 use Rattle.reply.specs.Steps.{PrintsTable, PrintsState}
 
-module _ (n : ℕ) (t values cares values′ cares′ : List ℕ) (v : length values ≡ 64) (w : length cares ≡ 64) where
-  -- with places for the widest table, Plan refuses what a table is refused for
+module _ (n : ℕ) (t values cares values′ cares′ : List ℕ) (v : 2 ^ (widest - 1) ≤ length values) (w : 2 ^ (widest - 1) ≤ length cares) where
+  -- with places for the widest list, Plan refuses what a table is refused for
   refusal-is : planRefuses n t (length values) (length cares) ≡ firstOf (tableConditions n t)
   refusal-is = go (firstOf (tableConditions n t)) refl
     where
       go : (k : ℕ) → firstOf (tableConditions n t) ≡ k → planRefuses n t (length values) (length cares) ≡ firstOf (tableConditions n t)
       go zero e =
-          let most = codes-most n (accepted n t e .to) in
+          let most = code-pairs-most n (accepted n t e .to) in
           sym (refuses-none n t (length values) (length cares) e (omega (arith, most, v)) (omega (arith, most, w))) ∙ sym e
       go (suc k) e = sym (refuses-table n t (length values) (length cares) (suc k) (sym e) (λ z. omega arith)) ∙ sym e
 
@@ -48,7 +47,7 @@ module _ (n : ℕ) (t values cares values′ cares′ : List ℕ) (v : length va
           width = width;
           values-long = held .enough-values;
           cares-long = held .enough-cares;
-          few = omega (arith, held .row-count, minimum-rows n t (firstRows rows values′ cares′) (held .minimum), codes-most n width);
+          few = omega (arith, held .few, code-pairs-most n width);
           room = room;
         }
 

@@ -2,7 +2,7 @@
 //
 //     reply::reply(input::feed(Reading::Start, &mut cells, b"2\n0111\n"), &cells, &mut out)     // 1-, -1, rows 2 bits 2
 use plan::Planned;
-use spelling::MOST_CODES;
+use spelling::MOST_CODE_PAIRS;
 use text::input::MOST_CELLS;
 use text::input::Reading;
 use text::input::Text;
@@ -17,8 +17,8 @@ fn table(n: usize, cells: &[u8], out: &mut [u8]) -> usize
     requires { ⌜ mostOutput ≤ length (now out) ⌝ }
     ensures { λ r. ⌜ PrintsTable n (now (cells .entry)) (now (out .entry)) (now (out .exit)) r ⌝ }
 {
-    let mut values = [0u8; MOST_CODES];
-    let mut cares = [0u8; MOST_CODES];
+    let mut values = [0u8; MOST_CODE_PAIRS];
+    let mut cares = [0u8; MOST_CODE_PAIRS];
     match plan::plan(n, cells, &mut values, &mut cares) {
         Planned::Rows(rows, bits) => text::output::list(n, &values, &cares, rows, bits, out),
         Planned::Refused(k) => text::output::refusal(k, out),

@@ -14,8 +14,11 @@ ghost use Rattle.spelling.specs.Spell.{spellOf, spellAnswer};
 // The widest mark.
 const WIDEST: usize = 6;
 
-// The codes and the cubes of the widest mark: the lengths of arrays that must suffice for every width.
+// The codes, the pairs of codes and the cubes of the widest mark: the lengths of arrays that must suffice for every width. A shortest list has at
+// most a row for each pair of codes.
 pub const MOST_CODES: usize = 64;
+
+pub const MOST_CODE_PAIRS: usize = 32;
 
 pub const MOST_CUBES: usize = 729;
 

@@ -1,7 +1,7 @@
 -- What the functions of `text` promise, step by step: the grammar a byte at a time, the cells that are kept in a lent buffer, and room for what
 -- is printed. No promise of the program cites it. Assumes nothing.
 use mathlib.Core.Path.{_≡_}
-use Prim.Native.Nat.{ℕ, _+_, _*_, _^_, _≤_}
+use Prim.Native.Nat.{ℕ, _+_, _-_, _*_, _^_, _≤_}
 use mathlib.Core.Bool.{cond}
 use mathlib.Core.List.{List, [], _∷_, _++_}
 use lib.Dec.{eqb}
@@ -118,14 +118,14 @@ pub record Closes (reading : Reading) (r : Text) : Type 0 where
 abbrev pub mostDigits : ℕ
 mostDigits = 20
 
--- the lines of the most rows at the widest width, and the last line
+-- the lines of the most rows of a shortest list at the widest width, and the last line
 abbrev pub mostOutput : ℕ
-mostOutput = (widest + 1) * 2 ^ widest + (length (bytes "rows  bits ") + 2 * mostDigits + 1)
+mostOutput = (widest + 1) * 2 ^ (widest - 1) + (length (bytes "rows  bits ") + 2 * mostDigits + 1)
 
 -- a list that can be printed: this many rows in two arrays, and a buffer for its lines
 pub record Printable (n : ℕ) (values cares : List ℕ) (count : ℕ) (out : List ℕ) : Type 0 where
   pub width : n ≤ widest
   pub values-long : count ≤ length values
   pub cares-long : count ≤ length cares
-  pub few : count ≤ 2 ^ widest
+  pub few : count ≤ 2 ^ (widest - 1)
   pub room : mostOutput ≤ length out

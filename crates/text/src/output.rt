@@ -1,6 +1,6 @@
 // The printed lines. Each function writes into a lent buffer, from place `at` on or from its front, and returns the place after
 // what it wrote.
-use spelling::MOST_CODES;
+use spelling::MOST_CODE_PAIRS;
 ghost use mathlib.Core.Path.{_≡_};
 ghost use mathlib.Core.List.{[], _∷_, _++_};
 ghost use Prim.Native.Nat.{_+_, _<_, _≤_};
@@ -13,8 +13,8 @@ ghost use Rattle.text.specs.Characters.{lineFeed, digitCharacter};
 ghost use Rattle.text.specs.Output.{inDecimal, characterOfVariable, rowLine, listLines, totalsLine, refused, listText, Prints};
 ghost use Rattle.text.specs.Steps.{mostOutput, Printable};
 
-// The longest output: lines of 7 bytes, one for each code, and the last line with two numbers of 20 digits.
-pub const MOST_OUTPUT: usize = 7 * MOST_CODES + 52;
+// The longest output: lines of 7 bytes, one for each pair of codes, and the last line with two numbers of 20 digits.
+pub const MOST_OUTPUT: usize = 7 * MOST_CODE_PAIRS + 52;
 
 fn word(text: &[u8], out: &mut [u8], at: usize) -> usize
     requires { ⌜ at + length (now text) ≤ length (now out) ⌝ }

@@ -1,6 +1,6 @@
 -- `plan::plan_refusal` meets its contract: what the table is refused for, then 4. Assumes nothing.
-use mathlib.Core.Path.{_≡_, sym, _∙_, subst}
-use Prim.Native.Nat.{ℕ, _<_, _≤_}
+use mathlib.Core.Path.{_≡_, sym, _∙_}
+use native.Mathlib.Omega.{arith}
 use borrow.Author.Needs.{needs}
 use Rattle.cube.specs.Calls.{firstOf, tableConditions}
 use Rattle.cube.proofs.Calls.{accepted}
@@ -17,25 +17,28 @@ table-refusal-requires c κs = search needs
 returns : tie.Need-returns
 returns c = let s = c .before .before .before .args in refuses-table (s .n) (s .table .now) (s .values) (s .cares) _ (c .before .table-refusal .ensures) (c .if1 .taken)
 
+sub-codes : tie.Need-sub-codes
+sub-codes c = let s = c .before .before .before .args in accepted (s .n) (s .table .now) (passes c) .from
+
 codes-requires : tie.Need-codes-requires
-codes-requires c κs = let s = c .before .before .before .args in accepted (s .n) (s .table .now) (passes c) .to
+codes-requires c κs = let s = c .before .before .before .args in omega (arith, accepted (s .n) (s .table .now) (passes c) .to)
 
 returns-2 : tie.Need-returns-2
 returns-2 c =
     let s = c .before .before .before .before .before .args in
-    refuses-values (s .n) (s .table .now) (s .values) (s .cares) (passes (c .before .before)) (subst (λ (i : ℕ). s .values < i) (c .before .codes .ensures) (c .if2 .taken))
+    refuses-values (s .n) (s .table .now) (s .values) (s .cares) (passes (c .before .before)) (omega (arith, c .before .codes .ensures, c .if2 .taken))
 
 returns-3 : tie.Need-returns-3
 returns-3 c =
     let s = c .before .before .before .before .before .before .args in
-    refuses-cares (s .n) (s .table .now) (s .values) (s .cares) (passes (c .before .before .before)) (subst (λ (i : ℕ). s .cares < i) (c .before .before .codes .ensures) (c .if3 .taken))
+    refuses-cares (s .n) (s .table .now) (s .values) (s .cares) (passes (c .before .before .before)) (omega (arith, c .before .before .codes .ensures, c .if3 .taken))
 
 returns-4 : tie.Need-returns-4
 returns-4 c =
     let s = c .before .before .before .before .before .before .args in
     let places = c .before .before .codes .ensures in
-    refuses-none (s .n) (s .table .now) (s .values) (s .cares) (passes (c .before .before .before)) (subst (λ (i : ℕ). i ≤ s .values) places (c .before .if2 .left))
-    (subst (λ (i : ℕ). i ≤ s .cares) places (c .if3 .left))
+    refuses-none (s .n) (s .table .now) (s .values) (s .cares) (passes (c .before .before .before)) (omega (arith, places, c .before .if2 .left))
+    (omega (arith, places, c .if3 .left))
 
 pub plan-refusal-spec : {M : Type 1} → statement M
-plan-refusal-spec = tie.close (tie.spec table-refusal-requires returns codes-requires returns-2 returns-3 returns-4)
+plan-refusal-spec = tie.close (tie.spec table-refusal-requires returns sub-codes codes-requires returns-2 returns-3 returns-4)

@@ -1,5 +1,6 @@
 -- `reply::table` meets its contract: Plan's answer is printed. Assumes nothing.
-use mathlib.Core.Path.{refl, subst}
+use mathlib.Core.Path.{subst}
+use lib.Dec.{lit≤}
 use borrow.Author.Needs.{needs}
 use Rattle.plan.specs.Plan.{Plans}
 use Rattle.reply.proofs.Printed.{printable, list-printed, refusal-printed}
@@ -29,7 +30,7 @@ list-requires c κs =
     let told = c .before .before .before .before in
     let planned = told .before .before .before .before in
     let s = planned .before .before .before .before .before in
-    printable (s .args .n) (s .args .cells .now) _ _ _ _ refl refl _ _ (subst (Plans (s .args .n) (s .args .cells .now) _ _ _ _) (told .rows .given .1) (planned .plan .ensures)) _ (s .pre)
+    printable (s .args .n) (s .args .cells .now) _ _ _ _ (lit≤ tt) (lit≤ tt) _ _ (subst (Plans (s .args .n) (s .args .cells .now) _ _ _ _) (told .rows .given .1) (planned .plan .ensures)) _ (s .pre)
 
 enum-known-k : tie.Need-enum-known-k
 enum-known-k c = search needs
@@ -46,7 +47,7 @@ returns c =
     let told = put .before .before .before .before .before in
     let planned = told .before .before .before .before in
     let s = planned .before .before .before .before .before .args in
-    list-printed (s .n) (s .cells .now) _ _ _ _ refl refl _ _ (subst (Plans (s .n) (s .cells .now) _ _ _ _) (told .rows .given .1) (planned .plan .ensures)) _ _ _ (put .list .ensures)
+    list-printed (s .n) (s .cells .now) _ _ _ _ (lit≤ tt) (lit≤ tt) _ _ (subst (Plans (s .n) (s .cells .now) _ _ _ _) (told .rows .given .1) (planned .plan .ensures)) _ _ _ (put .list .ensures)
 
 same-length-2 : tie.Need-same-length-2
 same-length-2 c = search needs
@@ -57,7 +58,7 @@ returns-2 c =
     let told = put .before .before .before in
     let planned = told .before .before .before .before in
     let s = planned .before .before .before .before .before .args in
-    refusal-printed (s .n) (s .cells .now) _ _ _ _ refl refl _ (subst (Plans (s .n) (s .cells .now) _ _ _ _) (told .k .given .1) (planned .plan .ensures)) _ _ _ (put .refusal .ensures)
+    refusal-printed (s .n) (s .cells .now) _ _ _ _ (lit≤ tt) (lit≤ tt) _ (subst (Plans (s .n) (s .cells .now) _ _ _ _) (told .k .given .1) (planned .plan .ensures)) _ _ _ (put .refusal .ensures)
 
 pub table-spec : {M : Type 1} → statement M
 table-spec =

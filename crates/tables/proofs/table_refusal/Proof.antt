@@ -5,18 +5,15 @@ use mathlib.Core.List.{List, [], _∷_}
 use Prim.Native.Nat.{ℕ, _^_}
 use lib.ListN.{length}
 use borrow.Author.Needs.{needs}
-use borrow.Author.Tests.{eq-eqb, ne-eqb}
+use borrow.Author.Tests.{ne-eqb}
 use Rattle.cube.specs.Calls.{badWidth, badLength, badCell, Condition, when, firstOf, tableConditions}
-use Rattle.cube.proofs.Calls.{width-to, first-holds, first-passes}
+use Rattle.cube.proofs.Calls.{width-to, first-holds, first-passes, cells-left}
 use Rattle.tables.proofs.table_refusal.Statement.{statement}
 use Rattle.tables.proofs.table_refusal.Tie as tie
 
 module _ (n : ℕ) (t : List ℕ) where
-  abbrev cells-left : List Condition
-  cells-left = when (badCell t) 3 ∷ []
-
   abbrev length-left : List Condition
-  length-left = when (badLength n t) 2 ∷ cells-left
+  length-left = when (badLength n t) 2 ∷ when (badCell t) 3 ∷ []
 
   bad : badWidth n ≡ true → 1 ≡ firstOf (tableConditions n t)
   bad e = sym (first-holds (badWidth n) 1 length-left e)
@@ -25,17 +22,14 @@ module _ (n : ℕ) (t : List ℕ) where
     unequal : (length t ≡ m → ⊥) → 2 ≡ firstOf (tableConditions n t)
     unequal h =
         sym (first-passes (badWidth n) 1 length-left good
-        ∙ first-holds (badLength n t) 2 cells-left (ap not (ne-eqb (length t) (2 ^ n) (λ e. h (e ∙ sym m-is)))))
+        ∙ first-holds (badLength n t) 2 (when (badCell t) 3 ∷ []) (ap not (ne-eqb (length t) (2 ^ n) (λ e. h (e ∙ sym m-is)))))
 
     module _ (e : length t ≡ m) where
-      left : firstOf (tableConditions n t) ≡ firstOf cells-left
-      left = first-passes (badWidth n) 1 length-left good ∙ first-passes (badLength n t) 2 cells-left (ap not (eq-eqb (length t) (2 ^ n) (e ∙ m-is)))
-
       above : badCell t ≡ true → 3 ≡ firstOf (tableConditions n t)
-      above h = sym (left ∙ first-holds (badCell t) 3 [] h)
+      above h = sym (cells-left n t good (e ∙ m-is) ∙ first-holds (badCell t) 3 [] h)
 
       fine : badCell t ≡ false → 0 ≡ firstOf (tableConditions n t)
-      fine h = sym (left ∙ first-passes (badCell t) 3 [] h)
+      fine h = sym (cells-left n t good (e ∙ m-is) ∙ first-passes (badCell t) 3 [] h)
 
 good-at : (c : tie.Else1) → badWidth (c .before .before .before .args .n) ≡ false
 good-at c = sym (c .before .bad-width .ensures) ∙ c .if1 .left
