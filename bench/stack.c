@@ -7,6 +7,7 @@
 #include "rows.h"
 
 #define MOST_CELLS 64
+#define MOST_CODE_PAIRS 32
 #define MOST_CUBES 729
 #define MOST_ROWS 255
 
@@ -37,7 +38,7 @@ static void accept(int32_t answer) {
 
 static void *plan_all(void *unused) {
     while (next()) {
-        accept(rows_plan(width, table, cells, values, MOST_CELLS, cares, MOST_CELLS));
+        accept(rows_plan(width, table, cells, values, MOST_CODE_PAIRS, cares, MOST_CODE_PAIRS));
     }
     return unused;
 }

@@ -5,7 +5,7 @@
 #include <stdio.h>
 #include <rows.h>
 
-enum { WIDTH = 4, CODES = 1 << WIDTH };
+enum { WIDTH = 4, CODES = 1 << WIDTH, PLACES = CODES / 2 };
 
 /* A cell for each code from 0 up: 0 barred, 1 wanted, 2 free. */
 static const uint8_t table[CODES] = {0, 0, 0, 0, 0, 0, 0, 1, 0, 1, 1, 0, 1, 1, 1, 1};
@@ -16,13 +16,13 @@ static int fail(const char *what, int32_t answer) {
 }
 
 int main(int argc, char **argv) {
-    uint8_t values[CODES], cares[CODES], file[2 + 2 * CODES];
+    uint8_t values[PLACES], cares[PLACES], file[2 + 2 * PLACES];
     if (argc != 2) {
         fprintf(stderr, "usage: install FILE\n");
         return 1;
     }
 
-    int32_t planned = rows_plan(WIDTH, table, CODES, values, CODES, cares, CODES);
+    int32_t planned = rows_plan(WIDTH, table, CODES, values, PLACES, cares, PLACES);
     if (planned < 0) {
         return fail("rows_plan refused", planned);
     }

@@ -110,8 +110,8 @@ int32_t rows_essentials(size_t n, const uint8_t *table, size_t table_len, uint16
  * many rows tests fewer bits. Which of several equally good lists is written is left open.
  *
  * Answers 10000 * rows + tested bits, summed over the rows: rows is answer / 10000, tested bits is
- * answer % 10000.
- * Refuses 1, 2, 3, then 4 when values_len or cares_len is below 2^n, even if there are fewer rows.
+ * answer % 10000. There are never more than 2^(n-1) rows.
+ * Refuses 1, 2, 3, then 4 when values_len or cares_len is below 2^(n-1), even if there are fewer rows.
  */
 int32_t rows_plan(size_t n, const uint8_t *table, size_t table_len, uint8_t *values, size_t values_len,
                   uint8_t *cares, size_t cares_len);

@@ -5,7 +5,7 @@
 #include <stddef.h>
 #include <stdint.h>
 
-enum { WIDEST = 6, MOST_CODES = 64, MOST_CUBES = 729 };
+enum { WIDEST = 6, MOST_CODES = 64, MOST_CODE_PAIRS = 32, MOST_CUBES = 729 };
 
 struct row {
     uint8_t value, care;

@@ -160,7 +160,7 @@ static int planned(size_t n, const uint8_t *table, const uint8_t *values, const 
 int32_t try_plan(size_t n, const uint8_t *cells, size_t table_len, size_t values_len, size_t cares_len) {
     uint8_t *table = lend(0, cells, table_len), *values = lend_random(1, values_len), *cares = lend_random(2, cares_len);
     int k = refuses_table(n, cells, table_len);
-    k = k ? k : values_len < power(2, n) || cares_len < power(2, n) ? 4 : 0;
+    k = k ? k : values_len < power(2, n - 1) || cares_len < power(2, n - 1) ? 4 : 0;
     calling = "rows_plan";
     int32_t answer = rows_plan(n, table, table_len, values, values_len, cares, cares_len);
     int right = kept(0, 0);
@@ -168,7 +168,7 @@ int32_t try_plan(size_t n, const uint8_t *cells, size_t table_len, size_t values
         right = right && answer == -k && kept(1, 0) && kept(2, 0);
     } else {
         size_t rows = (size_t)answer / 10000;
-        right = right && answer >= 0 && rows <= power(2, n) && kept(1, rows) && kept(2, rows);
+        right = right && answer >= 0 && rows <= power(2, n - 1) && kept(1, rows) && kept(2, rows);
         right = right && planned(n, cells, values, cares, rows, (unsigned)answer % 10000);
     }
     expect(right, "rows_plan(%zu, %s, %zu and %zu places): %d, refusal expected: %d", n, text(cells, table_len), values_len, cares_len, answer, -k);

@@ -1,6 +1,6 @@
-/* A client of the library as the installer would write it. It tries every edge of document 01, and of Read in document 02, through C. Each answer, and every
- * byte of lent memory, is compared with a few lines of C that share no code with the product (../meanings.c). Prints each failure, and at the end
- * 'N passed, 0 failed'. */
+/* A client of the library as the installer would write it. It tries every edge of document 01 through C, and of document 02 those of Read and of Plan's places.
+ * Each answer, and every byte of lent memory, is compared with a few lines of C that share no code with the product (../meanings.c). Prints each failure, and at
+ * the end 'N passed, 0 failed'. */
 #include <stdio.h>
 
 #include "client.h"
@@ -17,11 +17,14 @@ size_t width_or_6(size_t n) { return n < 1 || n > WIDEST ? WIDEST : n; }
 
 size_t codes(size_t n) { return power(2, width_or_6(n)); }
 
+size_t code_pairs(size_t n) { return codes(n) / 2; }
+
 size_t cubes(size_t n) { return power(3, width_or_6(n)); }
 
 int main(void) {
     setvbuf(stdout, NULL, _IOLBF, 0);
     edges();
+    filled_places();
     cases();
     long_arrays();
     every_cube();

@@ -25,8 +25,8 @@ void *lend_random(size_t which, size_t bytes);
 /* Whether everything but the first `used` bytes of that array is as it was lent. */
 int kept(size_t which, size_t used);
 
-/* calls.c: one call each, whose answer and lent memory are compared with what document 01 says, and document 02 of Read. They return what the call
- * returned. */
+/* calls.c: one call each, whose answer and lent memory are compared with what document 01 says, and document 02 of Read and of Plan's places. They return what
+ * the call returned. */
 int32_t try_spell(size_t n, size_t cube);
 int32_t try_cells(size_t n, size_t cube, size_t codes_len);
 int32_t try_primes(size_t n, const uint8_t *table, size_t table_len, size_t cubes_len);
@@ -41,9 +41,10 @@ int32_t try_read(const uint8_t *file, size_t file_len, size_t values_len, size_t
 extern const size_t widths[];
 extern const size_t width_count;
 
-/* The number where it is a width, and 6 where it is not; the codes and the cubes of that width. */
+/* The number where it is a width, and 6 where it is not; the codes, the pairs of codes and the cubes of that width. Plan needs a place for each pair. */
 size_t width_or_6(size_t n);
 size_t codes(size_t n);
+size_t code_pairs(size_t n);
 size_t cubes(size_t n);
 
 /* lists.c: a random row that is formed, and one that is not; of width 6 where the number is not a width. */
@@ -53,7 +54,8 @@ struct row damaged_row(size_t n);
 #define LENGTH(array) (sizeof(array) / sizeof((array)[0]))
 
 /* What is tried. cubes.c: Spell and Cells. tables.c: Primes, Chart, Essentials and Plan. lists.c: Check and Write. files.c: Read.
- * edges.c: the sentences of "Codes at the edge" and the cases a to j, by their numbers in document 01, and very long arrays. */
+ * edges.c: the sentences of "Codes at the edge" and the cases a to j, by their numbers in document 01, the tables that fill all places, and very long
+ * arrays. */
 void every_cube(void);
 void places_for_codes(void);
 void every_small_table(void);
@@ -72,6 +74,7 @@ void random_files(void);
 void refusals_of_read(void);
 void round_trips(void);
 void edges(void);
+void filled_places(void);
 void cases(void);
 void long_arrays(void);
 

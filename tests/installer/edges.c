@@ -34,7 +34,7 @@ static void width_accepted(size_t n, size_t codes, size_t cubes) {
     answers(sentence, try_primes(n, wanted, codes, cubes), 1);
     answers(sentence, try_chart(n, wanted, codes, cubes), 1);
     answers(sentence, try_essentials(n, wanted, codes, cubes), 1);
-    answers(sentence, try_plan(n, wanted, codes, codes, codes), 10000);
+    answers(sentence, try_plan(n, wanted, codes, codes / 2, codes / 2), 10000);
     answers(sentence, try_check(n, wanted, codes, rows, 1, rows, 1), 0);
     answers(sentence, try_write(n, rows, 1, rows, 1, 4), 4);
     answers(sentence, try_read((uint8_t[]){(uint8_t)n, 1, 0, 0}, 4, 1, 1), 100000 * (int32_t)n + 1);
@@ -45,7 +45,7 @@ static void table(const char *sentence, const uint8_t *cells, size_t len, int32_
     answers(sentence, try_primes(6, cells, len, 729), primes);
     answers(sentence, try_chart(6, cells, len, 729), primes);
     answers(sentence, try_essentials(6, cells, len, 729), essentials);
-    answers(sentence, try_plan(6, cells, len, 64, 64), plan);
+    answers(sentence, try_plan(6, cells, len, 32, 32), plan);
     answers(sentence, try_check(6, cells, len, rows, 0, rows, 0), check);
 }
 
@@ -143,9 +143,12 @@ void edges(void) {
     answers("number 728 spells", try_spell(6, 728), 0);
     answers("number 729 refuses", try_spell(6, 729), -8);
     answers("number 729 refuses", try_cells(6, 729, 64), -8);
-    answers("Plan arrays of 63 refuse", try_plan(6, wanted, 64, 63, 64), -4);
-    answers("Plan arrays of 63 refuse", try_plan(6, wanted, 64, 64, 63), -4);
-    answers("Plan arrays of 64 pass", try_plan(6, wanted, 64, 64, 64), 10000);
+    answers("Plan arrays of 31 refuse", try_plan(6, wanted, 64, 31, 32), -4);
+    answers("Plan arrays of 31 refuse", try_plan(6, wanted, 64, 32, 31), -4);
+    answers("Plan arrays of 32 pass", try_plan(6, wanted, 64, 32, 32), 10000);
+    answers("0 places refuse at width 1", try_plan(1, wanted, 2, 0, 1), -4);
+    answers("0 places refuse at width 1", try_plan(1, wanted, 2, 1, 0), -4);
+    answers("1 place passes at width 1", try_plan(1, wanted, 2, 1, 1), 10000);
     cells_at_the_edge();
     lists_at_the_edge();
     files_at_the_edge();
@@ -170,9 +173,28 @@ static const struct example examples[] = {
     {"j", "1110011101110111", 4, 8, 0, 4, 9},
 };
 
-/* The cases a to j, and the tables whose list has the most rows: the codes with an odd number of ones, and those with an even number. */
+/* The tables whose list has the most rows: the codes with an odd number of ones are wanted, or those with an even number. All places are filled, and with one
+ * fewer in either array or in both Plan refuses. */
+void filled_places(void) {
+    uint8_t cells[MOST_CODES];
+    for (size_t n = 1; n <= WIDEST; n++) {
+        size_t most = code_pairs(n);
+        for (unsigned odd = 0; odd < 2; odd++) {
+            for (unsigned c = 0; c < codes(n); c++) {
+                cells[c] = ones(c) % 2 == odd;
+            }
+            answers("the most rows", try_plan(n, cells, codes(n), most, most), (int32_t)(10000 * most + n * most));
+            answers("the most rows, and twice the places", try_plan(n, cells, codes(n), 2 * most, 2 * most), (int32_t)(10000 * most + n * most));
+            answers("a place fewer for values", try_plan(n, cells, codes(n), most - 1, most), -4);
+            answers("a place fewer for cares", try_plan(n, cells, codes(n), most, most - 1), -4);
+            answers("a place fewer for both", try_plan(n, cells, codes(n), most - 1, most - 1), -4);
+        }
+    }
+}
+
+/* The cases a to j. */
 void cases(void) {
-    uint8_t cells[64];
+    uint8_t cells[16];
     for (size_t i = 0; i < sizeof examples / sizeof examples[0]; i++) {
         const struct example *e = &examples[i];
         size_t codes = strlen(e->cells);
@@ -182,13 +204,7 @@ void cases(void) {
         answers(e->name, try_primes(e->n, cells, codes, 81), e->primes);
         answers(e->name, try_chart(e->n, cells, codes, 81), e->primes);
         answers(e->name, try_essentials(e->n, cells, codes, 81), e->essentials);
-        answers(e->name, try_plan(e->n, cells, codes, codes, codes), 10000 * e->rows + e->bits);
-    }
-    for (unsigned odd = 0; odd < 2; odd++) {
-        for (unsigned c = 0; c < 64; c++) {
-            cells[c] = ones(c) % 2 == odd;
-        }
-        answers("the most rows", try_plan(6, cells, 64, 64, 64), 10000 * 32 + 32 * 6);
+        answers(e->name, try_plan(e->n, cells, codes, codes / 2, codes / 2), 10000 * e->rows + e->bits);
     }
 }
 
@@ -200,13 +216,13 @@ void long_arrays(void) {
         perror("mmap");
         exit(2);
     }
-    uint8_t *second = large + half, zeros[64] = {0}, file[300], other[64], one_row[] = {6, 1, 0, 0}, two_rows[] = {6, 2, 0, 0, 0, 0};
+    uint8_t *second = large + half, zeros[64] = {0}, file[300], other[32], one_row[] = {6, 1, 0, 0}, two_rows[] = {6, 2, 0, 0, 0, 0};
     uint16_t cubes[729];
     struct rows_chart_row chart[729];
     answers("2^32 + 64 cells", rows_primes(6, large, more + 64, cubes, 729), -2);
     answers("2^32 + 64 cells", rows_chart(6, large, more + 64, chart, 729), -2);
     answers("2^32 + 64 cells", rows_essentials(6, large, more + 64, cubes, 729), -2);
-    answers("2^32 + 64 cells", rows_plan(6, large, more + 64, file, 64, other, 64), -2);
+    answers("2^32 + 64 cells", rows_plan(6, large, more + 64, file, 32, other, 32), -2);
     answers("2^32 + 64 cells", rows_check(6, large, more + 64, zeros, 1, rows, 1), -2);
     answers("2^32 + 1 values, one care", rows_check(6, barred, 64, large, more + 1, zeros, 1), -5);
     answers("2^32 + 1 values, one care", rows_write(6, large, more + 1, zeros, 1, file, 300), -5);
@@ -217,14 +233,14 @@ void long_arrays(void) {
     answers("2^32 + 1 places for codes", rows_cells(6, 728, large, more + 1), 64);
     answers("2^32 + 1 places for primes", rows_primes(6, wanted, 64, (uint16_t *)large, more + 1), 1);
     answers("2^32 + 1 places for essentials", rows_essentials(6, wanted, 64, (uint16_t *)large, more + 1), 1);
-    answers("2^32 + 1 places for values", rows_plan(6, wanted, 64, large, more + 1, other, 64), 10000);
-    answers("2^32 + 1 places for cares", rows_plan(6, wanted, 64, other, 64, large, more + 1), 10000);
+    answers("2^32 + 1 places for values", rows_plan(6, wanted, 64, large, more + 1, other, 32), 10000);
+    answers("2^32 + 1 places for cares", rows_plan(6, wanted, 64, other, 32, large, more + 1), 10000);
     answers("2^32 + 1 bytes for a file", rows_write(6, zeros, 1, rows, 1, large, more + 1), 4);
     answers("2^32 + 1 places for what is read", rows_read(two_rows, 6, large, more + 1, other, 2), 600002);
     answers("2^32 + 1 places for what is read", rows_read(two_rows, 6, other, 2, large, more + 1), 600002);
     answers("2^32 + 1 places for what is read", rows_read(two_rows, 6, large, more + 1, second, more + 1), 600002);
     memcpy(large, one_row, 4);
-    answers("a row in 4 bytes", rows_read(large, 4, file, 300, other, 64), 600001);
-    answers("a row in 2^32 + 4 bytes", rows_read(large, more + 4, file, 300, other, 64), -10);
+    answers("a row in 4 bytes", rows_read(large, 4, file, 300, other, 32), 600001);
+    answers("a row in 2^32 + 4 bytes", rows_read(large, more + 4, file, 300, other, 32), -10);
     munmap(large, 2 * half);
 }

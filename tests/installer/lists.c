@@ -111,7 +111,7 @@ void planned_lists(void) {
             uint8_t table[MOST_CODES];
             struct list list;
             random_table(n, table, 1 + random_below(7), random_below(3));
-            int32_t answer = rows_plan(n, table, codes(n), list.values, codes(n), list.cares, codes(n));
+            int32_t answer = rows_plan(n, table, codes(n), list.values, code_pairs(n), list.cares, code_pairs(n));
             size_t rows = answer < 0 ? 0 : (size_t)answer / 10000;
             expect(try_check(n, table, codes(n), list.values, rows, list.cares, rows) == 0, "a list that Plan wrote is not right");
             if (rows > 0) {

@@ -5,7 +5,7 @@ static void try_table(size_t n, const uint8_t *table) {
     try_primes(n, table, codes(n), cubes(n) + random_below(3));
     try_chart(n, table, codes(n), cubes(n) + random_below(3));
     try_essentials(n, table, codes(n), cubes(n) + random_below(3));
-    try_plan(n, table, codes(n), codes(n) + random_below(3), codes(n) + random_below(3));
+    try_plan(n, table, codes(n), code_pairs(n) + random_below(3), code_pairs(n) + random_below(3));
 }
 
 /* Every table of widths 1 to 3. */
@@ -45,8 +45,8 @@ void places_for_tables(void) {
             try_essentials(n, table, codes(n), len);
         }
         for (size_t len = 0; len < codes(n) + 3; len++) {
-            try_plan(n, table, codes(n), len, codes(n));
-            try_plan(n, table, codes(n), codes(n), len);
+            try_plan(n, table, codes(n), len, code_pairs(n));
+            try_plan(n, table, codes(n), code_pairs(n), len);
         }
     }
 }
@@ -54,7 +54,7 @@ void places_for_tables(void) {
 /* The calls on a table that may be refused, with too few places, just enough and more. */
 static void try_places(size_t n, const uint8_t *table, size_t table_len) {
     size_t for_cubes[] = {0, 1, cubes(n) - 1, cubes(n), cubes(n) + 1};
-    size_t for_rows[] = {0, 1, codes(n) - 1, codes(n), codes(n) + 1};
+    size_t for_rows[] = {0, 1, code_pairs(n) - 1, code_pairs(n), code_pairs(n) + 1, codes(n)};
     for (size_t i = 0; i < LENGTH(for_cubes); i++) {
         try_primes(n, table, table_len, for_cubes[i]);
         try_chart(n, table, table_len, for_cubes[i]);

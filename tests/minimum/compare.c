@@ -100,16 +100,17 @@ static double seconds(void) {
 
 /* Plans a table: the list must have this number, be right, and be formed. */
 static void plan(size_t n, const uint8_t *table, int32_t number) {
-    uint8_t values[MOST_CODES], cares[MOST_CODES];
-    size_t codes = power(2, n);
+    uint8_t values[MOST_CODE_PAIRS], cares[MOST_CODE_PAIRS];
+    size_t codes = power(2, n), pairs = power(2, n - 1);
     memset(values, 255, sizeof values);
     memset(cares, 255, sizeof cares);
     double start = seconds();
-    int32_t answer = rows_plan(n, table, codes, values, codes, cares, codes);
+    int32_t answer = rows_plan(n, table, codes, values, pairs, cares, pairs);
     double took = seconds() - start;
     slowest = took > slowest ? took : slowest;
     count(answer == number, "another number of rows and bits", n, table);
-    size_t rows = answer < 0 || answer / 10000 > MOST_CODES ? 0 : (size_t)answer / 10000;
+    count(answer / 10000 <= (int32_t)pairs, "more rows than pairs of codes", n, table);
+    size_t rows = answer < 0 || answer / 10000 > (int32_t)pairs ? 0 : (size_t)answer / 10000;
     int32_t bits = 0;
     for (size_t i = 0; i < rows; i++) {
         bits += (int32_t)ones(cares[i]);
