@@ -54,7 +54,7 @@ pub record Shortest (n : ℕ) (t : List ℕ) : Type 0 where
   -- the shortest lists are the minimum sums of document 000
   pub sums : (a : Cover) → Minimum n t a ↔ MinimumSum n t a
 
--- the table whose wanted codes are those with an odd number of ones; all others are barred
+-- the table whose wanted codes are those with an odd number of ones, all others barred (the parity function)
 abbrev pub oddOnes : ℕ → List ℕ
 oddOnes n = tabulate (2 ^ n) 0 (λ c. ones n c % 2)
 

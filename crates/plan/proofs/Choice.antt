@@ -146,7 +146,7 @@ module _ (n : ℕ) (t : List ℕ) (width : n ≤ widest) (cells : length t ≡ 2
   pub weight-most : rowWeight * length (those (a .rows) (member (found .picked))) ≤ found .weight
   weight-most = omega (arith, count-is, weight-is)
 
-  module _ (old cubes : List ℕ) (count : ℕ) (long : length old ≡ 2 ^ (widest - 1)) (put : Puts (pickedCubes (found .picked) (a .cubes) (a .rows)) old 0 cubes count) where
+  module _ (old cubes : List ℕ) (count : ℕ) (long : 2 ^ (widest - 1) ≤ length old) (put : Puts (pickedCubes (found .picked) (a .cubes) (a .rows)) old 0 cubes count) where
     xs : List ℕ
     xs = pickedCubes (found .picked) (a .cubes) (a .rows)
 

@@ -1,5 +1,5 @@
--- The theorem of `specs/Theorems.antt`: the first places of the arrays are the values and the cares of the list that Plan's promise names, so they are
--- that list. Assumes nothing.
+-- The theorems of `specs/Theorems.antt`: the first places of the arrays are the values and the cares of the list that Plan's promise names, so they are
+-- that list; and for one table it has as many rows as Plan asks for places. Assumes nothing.
 use mathlib.Core.Path.{_≡_, refl, sym, ap, ap₂, _∙_, subst⁻¹}
 use mathlib.Core.List.{List, [], _∷_, _++_, map}
 use Prim.Native.Nat.{ℕ, _-_, _^_, _≤_}

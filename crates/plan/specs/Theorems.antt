@@ -1,5 +1,5 @@
 -- Demand 3's sentence about the arrays, and document 02's about how many rows they hold: what follows from Plan's promise for the first places of both,
--- as many as the row count returned; and that Plan asks for no place too many. `proofs/Theorems.antt` proves it. Assumes nothing.
+-- as many as the row count returned; and that Plan asks for no place too many. `proofs/Theorems.antt` proves both. Assumes nothing.
 use mathlib.Core.Path.{_≡_}
 use mathlib.Core.Bool.{false}
 use mathlib.Core.List.{List, map}

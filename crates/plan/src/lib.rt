@@ -27,10 +27,10 @@ pub enum Planned {
 }
 
 // A shortest list: how many rows, their tested bits, and their cubes, ascending, in the first places.
-pub struct CubeList {
-    pub count: usize,
-    pub bits: usize,
-    pub cubes: [u16; MOST_CODE_PAIRS],
+struct CubeList {
+    count: usize,
+    bits: usize,
+    cubes: [u16; MOST_CODE_PAIRS],
 }
 
 // Fills in the weights of the first rows by their tested bits.
@@ -92,7 +92,7 @@ fn lightest<'a>(
 }
 
 // A shortest list for a table of n variables.
-pub fn shortest(n: usize, table: &[u8]) -> CubeList
+fn shortest(n: usize, table: &[u8]) -> CubeList
     requires { ⌜ (n ≤ widest) × (length (now table) ≡ 2 ^ n) ⌝ }
     ensures { λ r. ⌜ Chosen n (now (table .entry)) (r .cubes) (r .count) (r .bits) ⌝ }
 {

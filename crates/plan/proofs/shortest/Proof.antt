@@ -1,7 +1,8 @@
 -- `plan::shortest` meets its contract: the picked rows of the chart are those of a shortest list. Assumes nothing.
-use mathlib.Core.Path.{refl, subst⁻¹}
+use mathlib.Core.Path.{subst⁻¹}
 use Prim.Native.Nat.{ℕ, _*_, _≤_}
 use native.Mathlib.Omega.{arith}
+use lib.Dec.{lit≤}
 use borrow.Author.Needs.{needs}
 use Rattle.cube.proofs.Calls.{codes-most}
 use Rattle.plan.specs.Steps.{rowWeight}
@@ -64,7 +65,7 @@ returns c =
     let wanted = found .before in
     let built = wanted .before .before .before .before .before .before in
     let s = built .before .before in
-    chosen (s .args .n) (s .args .table .now) (s .pre .0) (s .pre .1) _ (built .build .ensures) _ (wanted .row-columns .ensures) _ (found .lightest .ensures) _ _ _ refl
+    chosen (s .args .n) (s .args .table .now) (s .pre .0) (s .pre .1) _ (built .build .ensures) _ (wanted .row-columns .ensures) _ (found .lightest .ensures) _ _ _ (lit≤ tt)
     (c .before .list-picked .ensures)
 
 pub shortest-spec : {M : Type 1} → statement M
