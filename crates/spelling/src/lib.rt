@@ -1,5 +1,5 @@
 // Spell: the row of a cube, from the table of 729 value and care pairs (values.rt, cares.rt). The powers of two and of
-// three are tables too; all other code reads them here, for cube digits and for the number of codes and cubes of a width.
+// three are here too; all other code takes them from here, for bits, for cube digits and for the number of codes and cubes of a width.
 //
 //     spelling::spell(4, 53)      // digits 1 2 2 2: value 8, care 8
 mod cares;
@@ -22,8 +22,6 @@ pub const MOST_CODE_PAIRS: usize = 32;
 
 pub const MOST_CUBES: usize = 729;
 
-const POWERS_OF_TWO: [usize; 7] = [1, 2, 4, 8, 16, 32, 64];
-
 const POWERS_OF_THREE: [usize; 7] = [1, 3, 9, 27, 81, 243, 729];
 
 // Whether the width is outside 1 to 6.
@@ -36,12 +34,12 @@ pub fn bad_width(n: usize) -> bool
     WIDEST < n
 }
 
-// The number of codes of n bits.
+// The number of codes of n bits, and the weight of bit n of a code, counted from the last.
 pub fn codes(n: usize) -> usize
     requires { ⌜ n ≤ widest ⌝ }
     ensures { λ r. ⌜ r ≡ 2 ^ n ⌝ }
 {
-    POWERS_OF_TWO[n]
+    1 << n
 }
 
 // The number of cubes of n digits, and the weight of digit n of a cube, counted from the last.
