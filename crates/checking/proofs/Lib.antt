@@ -1,4 +1,4 @@
--- The verdict by the lowest wrong code, what each answer says, and the wrong refusals that the promise shuts out.
+-- The verdict by the lowest wrong code, what each answer says, and the wrong answers that the promise shuts out.
 pub mod Verdicts
 pub mod Theorems
 pub mod Refuted

@@ -4,14 +4,13 @@ use mathlib.Core.Logic.{_↔_, ⊎-elim}
 use mathlib.Core.Bool.{Bool, true, false, cond, not, _&&_}
 use mathlib.Core.List.{List}
 use Prim.Native.Nat.{ℕ, _^_, _<_}
-use native.Mathlib.Omega.{arith}
-use lib.Dec.{T, eqb→eq}
-use Rattle.cube.specs.Words.{cell, onSet, offSet, Cover, coverMatches, implements, rowsOf}
+use lib.Dec.{T}
+use Rattle.cube.specs.Words.{onSet, offSet, Cover, coverMatches, implements, rowsOf}
 use Rattle.cube.specs.Calls.{gives, answered}
 use Rattle.numbers.proofs.Bools.{and-l, and-r, and-i, or-e, or-l, or-r, not-e, not-i, is-true, is-false, holds}
 use Rattle.numbers.proofs.Below.{Lowest, lowest-or-none}
 use Rattle.cube.proofs.Calls.{same-value}
-use Rattle.cube.proofs.Theorems.{implements-on, implements-off, implements-by}
+use Rattle.cube.proofs.Theorems.{not-barred, implements-on, implements-off, implements-by}
 use Rattle.checking.specs.Check.{checkRefuses, Verdict, right, missed, stray, isMissed, isStray, isWrong, verdict, checkOf}
 use Rattle.checking.specs.Theorems.{NamedMissed, NamedStray, CheckMeans}
 use Rattle.checking.proofs.Verdicts.{verdict-right, verdict-named}
@@ -76,13 +75,8 @@ module _ (n : ℕ) (t : List ℕ) (rs : Cover) where
       ⊎-elim (λ r. subst⁻¹ Says (verdict-named n t rs (r .0) (r .1)) (says-named (r .0) (r .1)))
       (λ none. subst⁻¹ Says (verdict-right n t rs none) (none-implements none)) (lowest-or-none (2 ^ n) (isWrong t rs))
 
-  -- no code is both wanted and barred
   stray-not-missed : (c : ℕ) → T (offSet t c) → isMissed t rs c ≡ false
-  stray-not-missed c b =
-      is-false (isMissed t rs c) λ x.
-      let e : cell t c ≡ 0 = eqb→eq (cell t c) 0 b in
-      let d : cell t c ≡ 1 = eqb→eq (cell t c) 1 (and-l (onSet t c) (not (coverMatches rs c)) x) in
-      omega arith
+  stray-not-missed c b = is-false (isMissed t rs c) (λ x. not-barred t c (and-l (onSet t c) (not (coverMatches rs c)) x) b)
 
   is-verdict : (v : Verdict) → Says v → verdict n t rs ≡ v
   unfolding NoneWrong

@@ -1,4 +1,4 @@
--- What Check answers, what each answer says, and what its steps leave.
+-- What Check answers, what each answer says, and what its steps tell.
 pub mod Check
 pub mod Theorems
 pub mod Steps

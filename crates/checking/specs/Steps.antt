@@ -1,21 +1,22 @@
--- What the steps of Check leave: a list and a table that can be compared, and the lowest wrong code. Assumes nothing.
+-- What the steps of Check tell, which see the gathered codes and not the rows: it holds for every list that matches these codes. Assumes nothing.
 use mathlib.Core.Path.{_≡_}
+use mathlib.Core.Bool.{Bool}
 use mathlib.Core.List.{List}
-use Prim.Native.Nat.{ℕ, _^_, _<_, _≤_}
-use lib.Dec.{T}
-use lib.ListN.{length}
-use Rattle.cube.specs.Words.{Cover}
-use Rattle.cube.specs.Calls.{widest}
-use Rattle.checking.specs.Check.{isWrong}
+use Prim.Native.Nat.{ℕ, _^_, _<_}
+use Rattle.cube.specs.Words.{Cover, coverMatches}
+use Rattle.cube.specs.Calls.{gives}
+use Rattle.matrix.specs.ColumnSets.{ColumnSet, has}
+use Rattle.checking.specs.Check.{isWrong, verdict, checkAnswer}
+use Rattle.checking.specs.declared.Checked.{Checked}
 
--- a table of n variables, and a list in two arrays of one length
-pub record Comparable (n : ℕ) (t vs ws : List ℕ) : Type 0 where
-  pub width : n ≤ widest
-  pub cells : length t ≡ 2 ^ n
-  pub equal : length vs ≡ length ws
+-- b tells whether code c is wrong, for every list that matches it where it is in the set
+abbrev pub Tells : List ℕ → ColumnSet → ℕ → Bool → Type 0
+Tells t matched c b = (rs : Cover) → has matched c ≡ coverMatches rs c → b ≡ isWrong t rs c
 
--- c is the lowest wrong code, or 2^n where none is wrong
-pub record LowestWrong (n : ℕ) (t : List ℕ) (rs : Cover) (c : ℕ) : Type 0 where
-  pub inside : c ≤ 2 ^ n
-  pub wrong : c < 2 ^ n → T (isWrong t rs c)
-  pub none-lower : (k : ℕ) → k < c → T (isWrong t rs k) → ⊥
+-- of the codes the list matches those in the set, and no other
+abbrev pub Matches : ℕ → Cover → ColumnSet → Type 0
+Matches n rs matched = (c : ℕ) → c < 2 ^ n → has matched c ≡ coverMatches rs c
+
+-- r is the verdict on every list that matches the codes in the set
+abbrev pub Judges : ℕ → List ℕ → ColumnSet → Checked → Type 0
+Judges n t matched r = (rs : Cover) → Matches n rs matched → checkAnswer r ≡ gives (verdict n t rs)

@@ -1,15 +1,20 @@
-// Check: whether a list of rows matches every wanted code of a table and no barred one, and if not, the lowest wrong code.
+// Check: whether a list of rows matches every wanted code of a table and no barred one, and if not, the lowest wrong code. It goes through the
+// rows once and gathers the codes that they match, and then through the codes from 0 up to the first wrong one.
 //
 //     checking::check(2, &[0, 0, 1, 1], &[2], &[2])   // Right: the row 1- matches 2 and 3
 //     checking::check(2, &[0, 0, 1, 1], &[0], &[0])   // Stray(0): the row -- matches 0, which is barred
 //     checking::check(2, &[0, 0, 1, 1], &[], &[])     // Missed(2)
+use gathering::Gathered;
+use matrix::columns;
 ghost use mathlib.Core.Path.{_≡_};
-ghost use Prim.Native.Nat.{_<_};
+ghost use mathlib.Core.Bool.{cond};
+ghost use Prim.Native.Nat.{_^_, _<_, _≤_};
 ghost use lib.ListN.{length};
-ghost use Rattle.cube.specs.Words.{rowsOf};
-ghost use Rattle.cube.specs.Calls.{gives};
-ghost use Rattle.checking.specs.Check.{isWrong, verdict, checkOf, checkAnswer};
-ghost use Rattle.checking.specs.Steps.{Comparable, LowestWrong};
+ghost use Rattle.cube.specs.Words.{onSet};
+ghost use Rattle.cube.specs.Calls.{widest, gives};
+ghost use Rattle.matrix.specs.Sets.{columnLimit};
+ghost use Rattle.checking.specs.Check.{missed, stray, checkOf, checkAnswer};
+ghost use Rattle.checking.specs.Steps.{Tells, Judges};
 
 // Right, the lowest wrong code, or the number of the refusal.
 pub enum Checked {
@@ -20,49 +25,45 @@ pub enum Checked {
 }
 
 // Whether code c is wrong: barred and matched, or wanted and unmatched.
-fn is_wrong(table: &[u8], values: &[u8], cares: &[u8], c: usize) -> bool
-    requires { ⌜ (c < length (now table)) × (c < 256) × (length (now values) ≡ length (now cares)) ⌝ }
-    ensures { λ r. ⌜ r ≡ isWrong (now (table .entry)) (rowsOf (now (values .entry)) (now (cares .entry))) c ⌝ }
+fn is_wrong(table: &[u8], matched: columns::Set, c: usize) -> bool
+    requires { ⌜ (c < length (now table)) × (c < columnLimit) ⌝ }
+    ensures { λ r. ⌜ Tells (now (table .entry)) matched c r ⌝ }
 {
     let cell = table[c];
-    if lists::matches(values, cares, c as u8) {
+    if columns::has(matched, c) {
         cell == 0
     } else {
         cell == 1
     }
 }
 
-// The lowest wrong code, or the number of codes where none is wrong.
-fn lowest_wrong(n: usize, table: &[u8], values: &[u8], cares: &[u8]) -> usize
-    requires { ⌜ Comparable n (now table) (now values) (now cares) ⌝ }
-    ensures { λ r. ⌜ LowestWrong n (now (table .entry)) (rowsOf (now (values .entry)) (now (cares .entry))) r ⌝ }
+// A wrong code with its name: missed where it is wanted, otherwise stray.
+fn missed_or_stray(table: &[u8], c: usize) -> Checked
+    requires { ⌜ (c < length (now table)) × (c < 256) ⌝ }
+    ensures { λ r. ⌜ checkAnswer r ≡ gives (cond (onSet (now (table .entry)) c) (missed c) (stray c)) ⌝ }
 {
-    let codes = spelling::codes(n);
-    let mut c = 0;
-    while c < codes {
-        if is_wrong(table, values, cares, c) {
-            return c;
-        }
-        c += 1;
-    }
-    codes
-}
-
-// Compares a list that is not refused with the table.
-fn compare(n: usize, table: &[u8], values: &[u8], cares: &[u8]) -> Checked
-    requires { ⌜ Comparable n (now table) (now values) (now cares) ⌝ }
-    ensures { λ r. ⌜ checkAnswer r ≡ gives (verdict n (now (table .entry)) (rowsOf (now (values .entry)) (now (cares .entry)))) ⌝ }
-{
-    let c = lowest_wrong(n, table, values, cares);
-    if c == spelling::codes(n) {
-        return Checked::Right;
-    }
     let code = c as u8;
     if table[c] == 1 {
         Checked::Missed(code)
     } else {
         Checked::Stray(code)
     }
+}
+
+// The lowest wrong code with its name, or right where none is wrong.
+fn lowest_wrong(n: usize, table: &[u8], matched: columns::Set) -> Checked
+    requires { ⌜ (n ≤ widest) × (length (now table) ≡ 2 ^ n) ⌝ }
+    ensures { λ r. ⌜ Judges n (now (table .entry)) matched r ⌝ }
+{
+    let codes = spelling::codes(n);
+    let mut c = 0;
+    while c < codes {
+        if is_wrong(table, matched, c) {
+            return missed_or_stray(table, c);
+        }
+        c += 1;
+    }
+    Checked::Right
 }
 
 // Whether a list is right for a table: right, the lowest wrong code, or the number of the refusal.
@@ -73,9 +74,12 @@ pub fn check(n: usize, table: &[u8], values: &[u8], cares: &[u8]) -> Checked
     if k != 0 {
         return Checked::Refused(k);
     }
-    let k = lists::list_refusal(n, values, cares);
+    let k = lists::length_refusal(values, cares);
     if k != 0 {
         return Checked::Refused(k);
     }
-    compare(n, table, values, cares)
+    match gathering::gather(n, values, cares) {
+        Gathered::BadRow => Checked::Refused(7),
+        Gathered::Codes(matched) => lowest_wrong(n, table, matched),
+    }
 }

@@ -99,25 +99,29 @@ none-in-front xs ys e = go (firstOf xs) refl
     go zero a = a
     go (suc k) a = absurd (let z : suc k ≡ 0 = sym (conditions-refuse xs ys k a) ∙ e in omega arith)
 
--- one more condition after others, with 4
-module _ (xs : List Condition) (n : T (numbered xs)) (b : Bool) where
-  abbrev pub then-four : ℕ
-  then-four = firstOf (xs ++ (when b 4 ∷ []))
+-- as code tells it: what those in front refuse with, if it is not 0, is what all refuse with
+pub front-refuses : (xs ys : List Condition) (k : ℕ) → k ≡ firstOf xs → (k ≡ 0 → ⊥) → k ≡ firstOf (xs ++ ys)
+front-refuses xs ys zero e h = absurd (h refl)
+front-refuses xs ys (suc k) e h = sym (conditions-refuse xs ys k (sym e))
 
-  pub four-before : (k : ℕ) → k ≡ firstOf xs → (k ≡ 0 → ⊥) → k ≡ then-four
-  four-before zero e h = absurd (h refl)
-  four-before (suc k) e h = sym (conditions-refuse xs (when b 4 ∷ []) k (sym e))
+-- one more condition after others, with the number suc m
+module _ (xs : List Condition) (n : T (numbered xs)) (b : Bool) (m : ℕ) where
+  abbrev and-last : ℕ
+  and-last = firstOf (xs ++ (when b (suc m) ∷ []))
 
-  pub four-holds : firstOf xs ≡ 0 → b ≡ true → 4 ≡ then-four
-  four-holds e h = sym (conditions-pass xs (when b 4 ∷ []) n e ∙ first-holds b 4 [] h)
+  pub last-before : (k : ℕ) → k ≡ firstOf xs → (k ≡ 0 → ⊥) → k ≡ and-last
+  last-before = front-refuses xs (when b (suc m) ∷ [])
 
-  pub four-passes : firstOf xs ≡ 0 → b ≡ false → 0 ≡ then-four
-  four-passes e h = sym (conditions-pass xs (when b 4 ∷ []) n e ∙ first-passes b 4 [] h)
+  pub last-holds : firstOf xs ≡ 0 → b ≡ true → suc m ≡ and-last
+  last-holds e h = sym (conditions-pass xs (when b (suc m) ∷ []) n e ∙ first-holds b (suc m) [] h)
+
+  pub last-passes : firstOf xs ≡ 0 → b ≡ false → 0 ≡ and-last
+  last-passes e h = sym (conditions-pass xs (when b (suc m) ∷ []) n e ∙ first-passes b (suc m) [] h)
 
   -- where it is not refused
-  pub four-none : then-four ≡ 0 → (firstOf xs ≡ 0) × (b ≡ false)
-  four-none e =
-      let front = none-in-front xs (when b 4 ∷ []) e in (front, none-first b 3 0 (sym (conditions-pass xs (when b 4 ∷ []) n front) ∙ e) .0)
+  pub last-none : and-last ≡ 0 → (firstOf xs ≡ 0) × (b ≡ false)
+  last-none e =
+      let front = none-in-front xs (when b (suc m) ∷ []) e in (front, none-first b m 0 (sym (conditions-pass xs (when b (suc m) ∷ []) n front) ∙ e) .0)
 
 -- two lent arrays, either of which may be too short
 module _ (a b needed : ℕ) where
@@ -161,10 +165,10 @@ module _ (n : ℕ) (t : List ℕ) where
   pub table-passes : (rest : List Condition) → firstOf (tableConditions n t) ≡ 0 → firstOf (tableConditions n t ++ rest) ≡ firstOf rest
   table-passes rest e = conditions-pass (tableConditions n t) rest tt e
 
-  pub table-refuses : (rest : List Condition) (k : ℕ) → firstOf (tableConditions n t) ≡ suc k → firstOf (tableConditions n t ++ rest) ≡ suc k
-  table-refuses rest k e = conditions-refuse (tableConditions n t) rest k e
-
 -- ---- a list that is not refused
+
+pub equal-lengths : (vs ws : List ℕ) → unequalLengths vs ws ≡ false → length vs ≡ length ws
+equal-lengths vs ws e = eqb-true (length vs) (length ws) (not-false (eqb (length vs) (length ws)) e)
 
 pub record AcceptedList (n : ℕ) (vs ws : List ℕ) : Type 0 where
   pub equal : length vs ≡ length ws
@@ -177,7 +181,7 @@ accepted-list n vs ws e =
     let a = none-first (unequalLengths vs ws) 4 _ e in
     let b = none-first (tooManyRows (length rs)) 5 _ (a .1) in
     record {
-      equal = eqb-true (length vs) (length ws) (not-false (eqb (length vs) (length ws)) (a .0));
+      equal = equal-lengths vs ws (a .0);
       few = ltb-false mostRows (length rs) (b .0);
       formed = none-first (badRow n rs) 6 _ (b .1) .0;
     }

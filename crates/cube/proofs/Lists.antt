@@ -1,7 +1,7 @@
 -- A list of rows in two arrays, place by place: row i is place i of each, so that a loop over the places finds what the list's own recursion
 -- says; and the first rows of two arrays, with one more row, and how many there are. Assumes nothing.
 use mathlib.Core.Path.{_≡_, refl, sym, ap, _∙_}
-use mathlib.Core.Bool.{Bool, false, not, _||_}
+use mathlib.Core.Bool.{Bool, true, false, not, _||_}
 use mathlib.Core.List.{List, [], _∷_, _++_}
 use Prim.Native.Nat.{ℕ, zero, suc, _<_, _≤_}
 use native.Mathlib.Nat.{not-suc-le-zero, le-of-suc-le-suc}
@@ -12,7 +12,7 @@ use Rattle.numbers.specs.Below.{some}
 use Rattle.cube.specs.Words.{Row, Cover, rowMatches, formed, eachRow, coverMatches, rowsOf}
 use Rattle.cube.specs.Calls.{badRow}
 use Rattle.numbers.proofs.Bools.{not-and}
-use Rattle.numbers.proofs.Below.{some-front}
+use Rattle.numbers.proofs.Below.{some-found, some-none, some-front}
 
 -- row i of two arrays
 abbrev pub rowIn : List ℕ → List ℕ → ℕ → Row
@@ -47,13 +47,20 @@ matches-place vs ws c e = any (rowsOf vs ws) ∙ any-place (λ r. rowMatches r c
     any (r ∷ rs) = ap (λ (b : Bool). rowMatches r c || b) (any rs)
 
 -- some row of the list is not formed where the row in some place is not
-pub bad-place : (n : ℕ) (vs ws : List ℕ) → length vs ≡ length ws → badRow n (rowsOf vs ws) ≡ some (length vs) (λ i. not (formed n (rowIn vs ws i)))
+bad-place : (n : ℕ) (vs ws : List ℕ) → length vs ≡ length ws → badRow n (rowsOf vs ws) ≡ some (length vs) (λ i. not (formed n (rowIn vs ws i)))
 unfolding eachRow anyRow
 bad-place n vs ws e = any (rowsOf vs ws) ∙ any-place (λ r. not (formed n r)) vs ws e
   where
     any : (rs : Cover) → not (eachRow (formed n) rs) ≡ anyRow (λ r. not (formed n r)) rs
     any [] = refl
     any (r ∷ rs) = not-and (formed n r) (eachRow (formed n) rs) ∙ ap (λ (b : Bool). not (formed n r) || b) (any rs)
+
+module _ (n : ℕ) (vs ws : List ℕ) (e : length vs ≡ length ws) where
+  pub bad-found : (i : ℕ) → i < length vs → not (formed n (rowIn vs ws i)) ≡ true → badRow n (rowsOf vs ws) ≡ true
+  bad-found i l h = bad-place n vs ws e ∙ some-found (length vs) (λ i. not (formed n (rowIn vs ws i))) i l h
+
+  pub bad-none : ((i : ℕ) → i < length vs → not (formed n (rowIn vs ws i)) ≡ false) → badRow n (rowsOf vs ws) ≡ false
+  bad-none f = bad-place n vs ws e ∙ some-none (length vs) (λ i. not (formed n (rowIn vs ws i))) f
 
 -- ---- the first rows
 

@@ -11,11 +11,11 @@ use lib.Bits.{bitAnd, and-mask}
 use lib.Dec.{T, eqb, ltb, eqb→eq, eqb-refl, lt→ltb, lit<}
 use lib.ListN.{length}
 use lib.Pow.{pow-pos}
-use Rattle.cube.specs.Words.{cell, onSet, offSet, Row, Cover, rowMatches, formed, eachRow, allFormed, coverMatches, implements, fits, rowOf, numberOf}
+use Rattle.cube.specs.Words.{onSet, offSet, Row, Cover, rowMatches, formed, eachRow, allFormed, coverMatches, implements, fits, rowOf, numberOf}
 use Rattle.numbers.proofs.Bools.{and-l, and-r, and-i, or-e, or-l, or-r, not-e, not-i, eqb-of}
 use Rattle.cube.proofs.Digits.{bit-lt, matches-at}
 use Rattle.cube.proofs.Rows.{cube-lt, row-is-cube, row-formed, row-of-matches}
-use Rattle.cube.proofs.Theorems.{implements-by}
+use Rattle.cube.proofs.Theorems.{not-barred, implements-by}
 
 -- ---- a row for each number below m that passes
 
@@ -134,9 +134,6 @@ second-out false true b f h = h
 second-out false false b f h = b
 
 -- ---- the list
-
-not-barred : (t : List ℕ) (c : ℕ) → T (onSet t c) → T (offSet t c) → ⊥
-not-barred t c w b = omega (arith, eqb→eq (cell t c) 1 w, eqb→eq (cell t c) 0 b)
 
 -- a right list with a row for each pair of codes, at most
 pub record PairByPair (n : ℕ) (t : List ℕ) : Type 0 where

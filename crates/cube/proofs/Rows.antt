@@ -29,11 +29,11 @@ cube-lt zero v w = lit< tt
 cube-lt (suc n) v w = omega (arith, pow-suc 3 n, cube-lt n (v / 2) (w / 2), digit-of-lt (v % 2) (w % 2) (bit-lt v))
 
 -- what formed says
-record Formed (n v w : ℕ) : Type 0 where
-  care : w < 2 ^ n
-  inside : bitAnd v w ≡ v
+pub record Formed (n v w : ℕ) : Type 0 where
+  pub care : w < 2 ^ n
+  pub inside : bitAnd v w ≡ v
 
-formed-means : (n : ℕ) (r : Row) → T (formed n r) → Formed n (r .value) (r .care)
+pub formed-means : (n : ℕ) (r : Row) → T (formed n r) → Formed n (r .value) (r .care)
 unfolding formed
 formed-means n r h =
     let below : Bool = ltb (r .care) (2 ^ n) in

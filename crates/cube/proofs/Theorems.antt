@@ -1,18 +1,23 @@
 -- The tests of the words as sentences: the theorem `Meanings` of `specs/Theorems.antt`. Each test runs over all codes or all cubes, and its sentence
--- says what that tells of each one. Assumes nothing.
+-- says what that tells of each one. And no code is both wanted and barred. Assumes nothing.
 use mathlib.Core.Path.{_≡_}
 use mathlib.Core.Logic.{⊎-elim}
 use mathlib.Core.Bool.{Bool, not, _&&_, _||_}
 use mathlib.Core.List.{List}
 use Prim.Native.Nat.{ℕ, _^_, _<_}
+use native.Mathlib.Omega.{arith}
 use lib.Dec.{T, eqb, ltb, eqb→eq, lt→ltb}
 use Rattle.numbers.specs.Below.{some}
-use Rattle.cube.specs.Words.{onSet, offSet, Cover, coverMatches, asked, implements, cubeMatches, cubeLiterals, implicant, within, wider, prime, alone, essential}
+use Rattle.cube.specs.Words.{cell, onSet, offSet, Cover, coverMatches, asked, implements, cubeMatches, cubeLiterals, implicant, within, wider, prime, alone, essential}
 use Rattle.cube.specs.Theorems.{Meanings}
 use Rattle.numbers.proofs.Bools.{and-l, and-r, and-i, imp-e, imp-i, nand-e, nand-i, not-e, not-i, eqb-of, eq-or-ne}
 use Rattle.numbers.proofs.Below.{every-at, every-by, some-at, some-by, none-at, none-by}
 use Rattle.cube.proofs.Digits.{matches-contained}
 use Rattle.cube.proofs.Implicants.{implicant-at, implicant-by, within-at, contained-within, wider-implicant, wider-fewer, wider-contains, prime-implicant}
+
+-- no code is both wanted and barred
+pub not-barred : (t : List ℕ) (c : ℕ) → T (onSet t c) → T (offSet t c) → ⊥
+not-barred t c w b = omega (arith, eqb→eq (cell t c) 1 w, eqb→eq (cell t c) 0 b)
 
 module _ (n : ℕ) (t : List ℕ) where
   module _ (rs : Cover) where

@@ -13,7 +13,7 @@ use borrow.Author.Tests.{lt-ltb, le-ltb, eqb-true, not-false}
 use Rattle.numbers.proofs.Bools.{is-true, eqb-of}
 use Rattle.cube.specs.Words.{rowsOf}
 use Rattle.cube.specs.Calls.{badWidth, short, badRow, badFile, when, firstOf, listConditions}
-use Rattle.cube.proofs.Calls.{neither, first-passes, none-first, none-in-front, AcceptedList, accepted-list, four-before, four-holds, four-passes, four-none, first-short, second-short, neither-short, answered-gives}
+use Rattle.cube.proofs.Calls.{neither, first-passes, none-first, none-in-front, AcceptedList, accepted-list, last-before, last-holds, last-passes, last-none, first-short, second-short, neither-short, answered-gives}
 use Rattle.listfile.specs.File.{Format, oneByteCount, fileLength, fileOf, widthIn, valuesIn, caresIn}
 use Rattle.listfile.specs.Write.{writeRefuses}
 use Rattle.listfile.specs.Read.{rowsIn, wrongLength, fileConditions, readRefuses, WidthAndCount, widthAndCount, Reads}
@@ -125,21 +125,21 @@ module _ (format : Format) (file : List ℕ) (values cares : ℕ) where
   is-short = short values (format .count file) || short cares (format .count file)
 
   pub refuses-file : (k : ℕ) → k ≡ firstOf (fileConditions format file) → (k ≡ 0 → ⊥) → k ≡ readRefuses format file values cares
-  refuses-file = four-before (fileConditions format file) tt is-short
+  refuses-file = last-before (fileConditions format file) tt is-short 3
 
   module _ (e : firstOf (fileConditions format file) ≡ 0) where
     pub refuses-values : values < format .count file → 4 ≡ readRefuses format file values cares
-    refuses-values h = four-holds (fileConditions format file) tt is-short e (first-short values cares (format .count file) h)
+    refuses-values h = last-holds (fileConditions format file) tt is-short 3 e (first-short values cares (format .count file) h)
 
     pub refuses-cares : cares < format .count file → 4 ≡ readRefuses format file values cares
-    refuses-cares h = four-holds (fileConditions format file) tt is-short e (second-short values cares (format .count file) h)
+    refuses-cares h = last-holds (fileConditions format file) tt is-short 3 e (second-short values cares (format .count file) h)
 
     pub refuses-none : format .count file ≤ values → format .count file ≤ cares → 0 ≡ readRefuses format file values cares
-    refuses-none v w = four-passes (fileConditions format file) tt is-short e (neither-short values cares (format .count file) v w)
+    refuses-none v w = last-passes (fileConditions format file) tt is-short 3 e (neither-short values cares (format .count file) v w)
 
   -- where nothing is refused
   pub read-accepted : readRefuses format file values cares ≡ 0 → AcceptedFile format file
-  read-accepted e = accepted-file format file (four-none (fileConditions format file) tt is-short e .0)
+  read-accepted e = accepted-file format file (last-none (fileConditions format file) tt is-short 3 e .0)
 
 -- ---- an answer of Read
 

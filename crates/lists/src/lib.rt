@@ -1,32 +1,46 @@
-// A list of rows in two arrays: what it is refused for, and the codes that it matches.
+// A list of rows in two arrays: what it is refused for.
 //
 //     lists::list_refusal(4, &[8], &[8])      // 0: value 8 and care 8 are a formed row
-//     lists::matches(&[8], &[8], 11)          // true: 11 AND 8 is 8
+//     lists::list_refusal(4, &[8], &[7])      // 7: value 8 has a one outside care 7
 ghost use mathlib.Core.Path.{_≡_};
 ghost use Prim.Native.Nat.{_≤_};
 ghost use lib.ListN.{length};
-ghost use Rattle.cube.specs.Words.{rowMatches, formed, coverMatches, rowsOf};
+ghost use Rattle.cube.specs.Words.{formed, rowsOf};
 ghost use Rattle.cube.specs.Calls.{widest, unequalLengths, tooManyRows, badRow, listConditions, firstOf};
+ghost use Rattle.lists.specs.Steps.{lengthConditions};
 
 // The most rows of a list.
 const MOST_ROWS: usize = 255;
 
 // Whether the two arrays differ in length.
-pub fn unequal_lengths(values: &[u8], cares: &[u8]) -> bool
+fn unequal_lengths(values: &[u8], cares: &[u8]) -> bool
     ensures { λ r. ⌜ r ≡ unequalLengths (now (values .entry)) (now (cares .entry)) ⌝ }
 {
     values.len() != cares.len()
 }
 
 // Whether this many rows are more than a list may have.
-pub fn too_many_rows(rows: usize) -> bool
+fn too_many_rows(rows: usize) -> bool
     ensures { λ r. ⌜ r ≡ tooManyRows rows ⌝ }
 {
     MOST_ROWS < rows
 }
 
+// What a call on a list refuses it for before it looks at a row: 5, 6, or 0 where neither holds.
+pub fn length_refusal(values: &[u8], cares: &[u8]) -> u8
+    ensures { λ r. ⌜ r ≡ firstOf (lengthConditions (now (values .entry)) (now (cares .entry))) ⌝ }
+{
+    if unequal_lengths(values, cares) {
+        return 5;
+    }
+    if too_many_rows(values.len()) {
+        return 6;
+    }
+    0
+}
+
 // Whether a row is formed: care is below 2^n, and value has no one outside care.
-fn is_formed(n: usize, value: u8, care: u8) -> bool
+pub fn is_formed(n: usize, value: u8, care: u8) -> bool
     requires { ⌜ n ≤ widest ⌝ }
     ensures { λ r. ⌜ r ≡ formed n (record { value = value; care = care }) ⌝ }
 {
@@ -56,36 +70,12 @@ pub fn list_refusal(n: usize, values: &[u8], cares: &[u8]) -> u8
     requires { ⌜ n ≤ widest ⌝ }
     ensures { λ r. ⌜ r ≡ firstOf (listConditions n (now (values .entry)) (now (cares .entry))) ⌝ }
 {
-    if unequal_lengths(values, cares) {
-        return 5;
-    }
-    if too_many_rows(values.len()) {
-        return 6;
+    let k = length_refusal(values, cares);
+    if k != 0 {
+        return k;
     }
     if bad_row(n, values, cares) {
         return 7;
     }
     0
-}
-
-// Whether a row matches a code.
-fn row_matches(value: u8, care: u8, code: u8) -> bool
-    ensures { λ r. ⌜ r ≡ rowMatches (record { value = value; care = care }) code ⌝ }
-{
-    code & care == value
-}
-
-// Whether one of the rows matches a code.
-pub fn matches(values: &[u8], cares: &[u8], code: u8) -> bool
-    requires { ⌜ length (now values) ≡ length (now cares) ⌝ }
-    ensures { λ r. ⌜ r ≡ coverMatches (rowsOf (now (values .entry)) (now (cares .entry))) code ⌝ }
-{
-    let mut i = 0;
-    while i < values.len() {
-        if row_matches(values[i], cares[i], code) {
-            return true;
-        }
-        i += 1;
-    }
-    false
 }

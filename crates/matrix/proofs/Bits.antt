@@ -1,24 +1,23 @@
 -- Words as sets of bits: what each operation on words does to a bit, as an equation of flags. Each goes by the quotient by 2 ^ c, under which the
 -- operations on words stay what they are, and then by the lowest digit. A set of columns is one word, so this holds of columns too. Assumes nothing.
 use mathlib.Core.Path.{_≡_, refl, sym, ap, subst, _∙_}
-use mathlib.Core.Bool.{true, false, not, _&&_, _||_}
+use mathlib.Core.Bool.{Bool, true, false, not, _&&_, _||_}
 use Prim.Native.Nat.{ℕ, zero, suc, _+_, _-_, _*_, _/_, _%_, _^_, _≤_, _<_, min, max}
-use native.Mathlib.Nat.{zero-lt-suc, pow-suc, div-lt-iff-lt-mul, div-div-eq-div-mul, div-one, zero-div, lt-of-lt-of-le, lt-of-le-of-lt, div-le-self, div-eq-of-lt, div-self, mul-mod-left, one-mul, mod-eq-of-lt}
+use native.Mathlib.Nat.{zero-lt-suc, pow-suc, div-lt-iff-lt-mul, div-div-eq-div-mul, div-one, zero-div, lt-of-lt-of-le, lt-of-le-of-lt, div-le-self, div-eq-of-lt, div-self, mul-mod-left, mul-assoc, one-mul, mod-eq-of-lt, mod-lt}
 use native.Mathlib.Omega.{arith}
 use native.Mathlib.Decide.{decLt}
-use lib.Dec.{eqb}
-use lib.Pow.{pow-mono, pow-lt, pow-pos, pow-add, shl-shr}
-use lib.Bits.{bitAnd, bitOr, bitXor, differ, and-step, or-step, xor-step, and-shr, or-shr, xor-shr, and-mask, and-le-l, and-le-r, xor-lt, xor-add-and}
+use lib.Dec.{eqb, ltb, leb}
+use lib.Pow.{pow-mono, pow-lt, pow-pos, pow-add, shl-shr, field, mod-mod-pow}
+use lib.Bits.{bitAnd, bitOr, bitXor, differ, and-step, or-step, xor-step, and-shr, or-shr, xor-shr, and-mask, and-le-l, and-le-r, xor-lt, xor-add-and, shifted-even}
 use lib.Count.{trailingZeros, under}
-use borrow.Author.Tests.{eq-eqb, ne-eqb}
-use Rattle.numbers.proofs.Flags.{clash, kept-of}
-use Rattle.matrix.specs.Sets.{wordBits, hasBit, In, Next}
+use borrow.Author.Tests.{eq-eqb, ne-eqb, lt-ltb, le-ltb, le-leb, lt-leb}
+use Rattle.numbers.proofs.Flags.{clash, not-set, kept-of}
+use Rattle.matrix.specs.Sets.{wordBits, hasBit, has, noColumn, hasRaised, In, Next}
 
-digit : ℕ → ℕ → ℕ
+abbrev digit : ℕ → ℕ → ℕ
 digit x c = x / 2 ^ c % 2
 
 digit-lt : (x c : ℕ) → digit x c < 2
-unfolding digit
 digit-lt x c = omega arith
 
 -- ---- the operations, at the lowest digits x and y of two words
@@ -53,22 +52,21 @@ or-odd a b = omega (arith, or-step a b)
 xor-odd : (a b : ℕ) → bitXor a b % 2 ≡ differ (a % 2) (b % 2)
 xor-odd a b = omega (arith, xor-step a b, differ-lt (a % 2) (b % 2) (omega arith) (omega arith))
 
-digit-and : (a b c : ℕ) → digit (bitAnd a b) c ≡ min (digit a c) (digit b c)
-unfolding digit
+pub digit-and : (a b c : ℕ) → digit (bitAnd a b) c ≡ min (digit a c) (digit b c)
 digit-and a b c = ap (λ (x : ℕ). x % 2) (and-shr a b c) ∙ and-odd (a / 2 ^ c) (b / 2 ^ c)
 
 -- ---- a & b, a | b, a ^ (a & b)
 
 pub has-and : (a b c : ℕ) → hasBit (bitAnd a b) c ≡ (hasBit a c && hasBit b c)
-unfolding hasBit digit
+unfolding hasBit
 has-and a b c = ap (λ (x : ℕ). eqb x 1) (digit-and a b c) ∙ and-flag (digit a c) (digit b c) (digit-lt a c) (digit-lt b c)
 
 pub has-or : (a b c : ℕ) → hasBit (bitOr a b) c ≡ (hasBit a c || hasBit b c)
-unfolding hasBit digit
+unfolding hasBit
 has-or a b c = ap (λ (x : ℕ). eqb x 1) (ap (λ (x : ℕ). x % 2) (or-shr a b c) ∙ or-odd (a / 2 ^ c) (b / 2 ^ c)) ∙ or-flag (digit a c) (digit b c) (digit-lt a c) (digit-lt b c)
 
 pub has-without : (a b c : ℕ) → hasBit (bitXor a (bitAnd a b)) c ≡ (hasBit a c && not (hasBit b c))
-unfolding hasBit digit
+unfolding hasBit
 has-without a b c =
     ap (λ (x : ℕ). eqb x 1)
     (ap (λ (x : ℕ). x % 2) (xor-shr a (bitAnd a b) c) ∙ xor-odd (a / 2 ^ c) (bitAnd a b / 2 ^ c) ∙ ap (differ (digit a c)) (digit-and a b c))
@@ -84,6 +82,9 @@ has-shifted x c = ap (λ (y : ℕ). eqb y 1) (and-mask (x / 2 ^ c) 1)
 pub has-zero : (c : ℕ) → hasBit 0 c ≡ false
 unfolding hasBit
 has-zero c = ap (λ (x : ℕ). eqb (x % 2) 1) (zero-div (2 ^ c))
+
+pub has-none : (c : ℕ) → has noColumn c ≡ false
+has-none c = has-zero c
 
 -- ---- 1 << d
 
@@ -121,12 +122,54 @@ in-below x c d h i = go (decLt c d)
     go (yes l) = l
     go (no n) = clash i (high (omega arith))
 
--- ---- the lowest bit
+-- ---- x >> f
 
--- x >> f
 pub has-shr : (x f c : ℕ) → hasBit (x / 2 ^ f) c ≡ hasBit x (f + c)
 unfolding hasBit
 has-shr x f c = ap (λ (y : ℕ). eqb (y % 2) 1) (div-div-eq-div-mul x (2 ^ f) (2 ^ c) ∙ ap (λ (y : ℕ). x / y) (sym (pow-add 2 f c)))
+
+-- ---- x << d
+
+-- what stands at bit d and above is x, and below it there is nothing
+shifted-above : (x d c : ℕ) → hasBit (x * 2 ^ d) (d + c) ≡ hasBit x c
+shifted-above x d c = sym (has-shr (x * 2 ^ d) d c) ∙ ap (λ (y : ℕ). hasBit y c) (shl-shr x d)
+
+shifted-below : (x e c : ℕ) → hasBit (x * 2 ^ (suc e + c)) c ≡ false
+unfolding hasBit
+shifted-below x e c =
+    ap (λ (y : ℕ). eqb (y / 2 ^ c % 2) 1) (ap (λ (y : ℕ). x * y) (pow-add 2 (suc e) c) ∙ sym (mul-assoc x (2 ^ suc e) (2 ^ c)))
+    ∙ ap (λ (y : ℕ). eqb (y % 2) 1) (shl-shr (x * 2 ^ suc e) c)
+    ∙ ap (λ (y : ℕ). eqb y 1) (shifted-even x e)
+
+has-shl : (x d c : ℕ) → hasBit (x * 2 ^ d) c ≡ (leb d c && hasBit x (c - d))
+has-shl x d c = go (decLt c d)
+  where
+    go : Dec (c < d) → hasBit (x * 2 ^ d) c ≡ (leb d c && hasBit x (c - d))
+    go (yes l) = let e : d ≡ suc (d - c - 1) + c = omega arith in
+        ap (λ (y : ℕ). hasBit (x * 2 ^ y) c) e ∙ shifted-below x (d - c - 1) c ∙ sym (ap (λ (b : Bool). b && hasBit x (c - d)) (lt-leb d c l))
+    go (no n) = let e : c ≡ d + (c - d) = omega arith in
+        ap (hasBit (x * 2 ^ d)) e ∙ shifted-above x d (c - d) ∙ sym (ap (λ (b : Bool). b && hasBit x (c - d)) (le-leb d c (omega arith)))
+
+-- ---- a word keeps its low bits
+
+kept : (x j c : ℕ) → hasBit (x % 2 ^ (j + 1 + c)) c ≡ hasBit x c
+unfolding hasBit
+kept x j c = ap (λ (y : ℕ). eqb (y % 2) 1) (field x (j + 1) c) ∙ ap (λ (y : ℕ). eqb y 1) (mod-mod-pow (x / 2 ^ c) j 1)
+
+has-mod : (x w c : ℕ) → hasBit (x % 2 ^ w) c ≡ (ltb c w && hasBit x c)
+has-mod x w c = go (decLt c w)
+  where
+    go : Dec (c < w) → hasBit (x % 2 ^ w) c ≡ (ltb c w && hasBit x c)
+    go (yes l) = let e : w ≡ w - c - 1 + 1 + c = omega arith in
+        ap (λ (y : ℕ). hasBit (x % 2 ^ y) c) e ∙ kept x (w - c - 1) c ∙ sym (ap (λ (b : Bool). b && hasBit x c) (lt-ltb c w l))
+    go (no n) =
+        not-set (hasBit (x % 2 ^ w) c) (λ h. n (in-below (x % 2 ^ w) c w (mod-lt x (pow-pos w)) h))
+        ∙ sym (ap (λ (b : Bool). b && hasBit x c) (le-ltb c w (omega arith)))
+
+pub has-raised : (x d c : ℕ) → hasBit (x * 2 ^ d % 2 ^ wordBits) c ≡ hasRaised x d c
+has-raised x d c = has-mod (x * 2 ^ d) wordBits c ∙ ap (λ (b : Bool). ltb c wordBits && b) (has-shl x d c)
+
+-- ---- the lowest bit
 
 has-half : (x c : ℕ) → hasBit (x / 2) c ≡ hasBit x (suc c)
 has-half x c = has-shr x 1 c ∙ ap (hasBit x) (omega arith)

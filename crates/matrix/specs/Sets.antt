@@ -1,32 +1,22 @@
--- Sets as bits of words: columns as one word, rows as a list of words. Definitions only. Assumes nothing.
+-- Sets as bits of words: columns as one word, by `ColumnSets`, and rows as a list of words. Definitions only. Assumes nothing.
 use mathlib.Core.Path.{_≡_}
 use mathlib.Core.List.{List}
-use mathlib.Core.Bool.{Bool, true, false}
-use Prim.Native.Nat.{ℕ, _*_, _/_, _%_, _^_, _≤_, _<_}
-use lib.Dec.{eqb}
+use mathlib.Core.Bool.{Bool, true, false, _&&_}
+use Prim.Native.Nat.{ℕ, _-_, _*_, _/_, _%_, _≤_, _<_}
+use lib.Dec.{ltb, leb}
 use lib.ListN.{getD}
+pub use Rattle.matrix.specs.ColumnSets.{ColumnSet, has}
+unfoldable pub use Rattle.matrix.specs.ColumnSets.{hasBit}
 
 -- the bits of a word
 abbrev pub wordBits : ℕ
 wordBits = 64
 
--- bit b of the word x is set
-unfoldable pub hasBit : ℕ → ℕ → Bool
-hasBit x b = eqb (x / 2 ^ b % 2) 1
-
 -- ---- sets of columns
-
--- a set of columns is a word
-abbrev pub ColumnSet : Type 0
-ColumnSet = ℕ
 
 -- the columns of a set are below this number
 abbrev pub columnLimit : ℕ
 columnLimit = wordBits
-
--- the column c is in the set x: bit c of x is set
-abbrev pub has : ColumnSet → ℕ → Bool
-has x c = hasBit x c
 
 abbrev pub In : ColumnSet → ℕ → Type 0
 In x c = has x c ≡ true
@@ -45,6 +35,14 @@ pub record Meeting (x y : ColumnSet) (b : Bool) : Type 0 where
 pub record Inclusion (x y : ColumnSet) (b : Bool) : Type 0 where
   pub all : b ≡ true → (c : ℕ) → In x c → In y c
   pub some : b ≡ false → (c : ℕ) × In x c × (In y c → ⊥)
+
+-- the set without a column
+abbrev pub noColumn : ColumnSet
+noColumn = 0
+
+-- the column c, below the limit, is in the set x raised by d: x has the column that is d lower
+abbrev pub hasRaised : ColumnSet → ℕ → ℕ → Bool
+hasRaised x d c = ltb c columnLimit && (leb d c && has x (c - d))
 
 -- ---- sets of rows
 

@@ -3,7 +3,7 @@ ghost use mathlib.Core.Path.{_≡_};
 ghost use mathlib.Core.Bool.{not, _&&_, _||_};
 ghost use Prim.Native.Nat.{ℕ, _+_, _^_, _≤_, _<_};
 ghost use lib.Dec.{eqb};
-ghost use Rattle.matrix.specs.Sets.{columnLimit, has, Emptiness, Meeting, Inclusion, Next};
+ghost use Rattle.matrix.specs.Sets.{columnLimit, has, hasRaised, Emptiness, Meeting, Inclusion, Next};
 use crate::words;
 
 // A set of columns.
@@ -75,6 +75,14 @@ pub fn without(a: Set, b: Set) -> Set
     ensures { λ r. ⌜ ((x : ℕ) → has r x ≡ (has a x && not (has b x))) ⌝ }
 {
     words::without(a, b)
+}
+
+// The columns of a set, each raised by d; those that pass the limit are gone.
+pub fn raised(set: Set, d: usize) -> Set
+    requires { ⌜ d < columnLimit ⌝ }
+    ensures { λ r. ⌜ ((x : ℕ) → has r x ≡ hasRaised set d x) ⌝ }
+{
+    set << d
 }
 
 // The columns of some words, and those that two of them have.

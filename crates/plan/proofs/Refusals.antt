@@ -4,7 +4,7 @@ use mathlib.Core.Bool.{Bool, _||_}
 use mathlib.Core.List.{List}
 use Prim.Native.Nat.{ℕ, _<_, _≤_}
 use Rattle.cube.specs.Calls.{short, firstOf, tableConditions}
-use Rattle.cube.proofs.Calls.{Accepted, accepted, four-before, four-holds, four-passes, four-none, first-short, second-short, neither-short, both-long}
+use Rattle.cube.proofs.Calls.{Accepted, accepted, last-before, last-holds, last-passes, last-none, first-short, second-short, neither-short, both-long}
 use Rattle.plan.specs.Plan.{planRefuses, planPlaces}
 
 module _ (n : ℕ) (t : List ℕ) (values cares : ℕ) where
@@ -12,17 +12,17 @@ module _ (n : ℕ) (t : List ℕ) (values cares : ℕ) where
   is-short = short values (planPlaces n) || short cares (planPlaces n)
 
   pub refuses-table : (k : ℕ) → k ≡ firstOf (tableConditions n t) → (k ≡ 0 → ⊥) → k ≡ planRefuses n t values cares
-  refuses-table = four-before (tableConditions n t) tt is-short
+  refuses-table = last-before (tableConditions n t) tt is-short 3
 
   module _ (e : firstOf (tableConditions n t) ≡ 0) where
     pub refuses-values : values < planPlaces n → 4 ≡ planRefuses n t values cares
-    refuses-values h = four-holds (tableConditions n t) tt is-short e (first-short values cares (planPlaces n) h)
+    refuses-values h = last-holds (tableConditions n t) tt is-short 3 e (first-short values cares (planPlaces n) h)
 
     pub refuses-cares : cares < planPlaces n → 4 ≡ planRefuses n t values cares
-    refuses-cares h = four-holds (tableConditions n t) tt is-short e (second-short values cares (planPlaces n) h)
+    refuses-cares h = last-holds (tableConditions n t) tt is-short 3 e (second-short values cares (planPlaces n) h)
 
     pub refuses-none : planPlaces n ≤ values → planPlaces n ≤ cares → 0 ≡ planRefuses n t values cares
-    refuses-none v w = four-passes (tableConditions n t) tt is-short e (neither-short values cares (planPlaces n) v w)
+    refuses-none v w = last-passes (tableConditions n t) tt is-short 3 e (neither-short values cares (planPlaces n) v w)
 
 -- what is known where nothing is refused
 pub record Plannable (n : ℕ) (t : List ℕ) (values cares : ℕ) : Type 0 where
@@ -32,6 +32,6 @@ pub record Plannable (n : ℕ) (t : List ℕ) (values cares : ℕ) : Type 0 wher
 
 pub plannable : (n : ℕ) (t : List ℕ) (values cares : ℕ) → planRefuses n t values cares ≡ 0 → Plannable n t values cares
 plannable n t values cares e =
-    let none = four-none (tableConditions n t) tt (is-short n t values cares) e in
+    let none = last-none (tableConditions n t) tt (is-short n t values cares) 3 e in
     let long = both-long values cares (planPlaces n) (none .1) in
     record { table = accepted n t (none .0); enough-values = long .0; enough-cares = long .1 }

@@ -13,20 +13,20 @@ use Rattle.cube.specs.Calls.{short, firstOf, tableConditions, Listed}
 use Rattle.cube.specs.declared.Counted.the-variants.{Count, Refused}
 use Rattle.numbers.proofs.Below.{those-same}
 use Rattle.numbers.proofs.Lent.{puts-same}
-use Rattle.cube.proofs.Calls.{Accepted, accepted, four-before, four-holds, four-passes, four-none, listed-refused, listed-done}
+use Rattle.cube.proofs.Calls.{Accepted, accepted, last-before, last-holds, last-passes, last-none, listed-refused, listed-done}
 use Rattle.primes.specs.Primes.{primesRefuses}
 use Rattle.primes.specs.Steps.{Marks, isMarked}
 use Rattle.primes.proofs.Flags.{marked-is}
 
 module _ (n : ℕ) (t : List ℕ) (places : ℕ) where
   pub refuses-table : (k : ℕ) → k ≡ firstOf (tableConditions n t) → (k ≡ 0 → ⊥) → k ≡ primesRefuses n t places
-  refuses-table = four-before (tableConditions n t) tt (short places (3 ^ n))
+  refuses-table = last-before (tableConditions n t) tt (short places (3 ^ n)) 3
 
   pub refuses-short : firstOf (tableConditions n t) ≡ 0 → places < 3 ^ n → 4 ≡ primesRefuses n t places
-  refuses-short e h = four-holds (tableConditions n t) tt (short places (3 ^ n)) e (lt-ltb places (3 ^ n) h)
+  refuses-short e h = last-holds (tableConditions n t) tt (short places (3 ^ n)) 3 e (lt-ltb places (3 ^ n) h)
 
   pub refuses-none : firstOf (tableConditions n t) ≡ 0 → 3 ^ n ≤ places → 0 ≡ primesRefuses n t places
-  refuses-none e h = four-passes (tableConditions n t) tt (short places (3 ^ n)) e (le-ltb places (3 ^ n) h)
+  refuses-none e h = last-passes (tableConditions n t) tt (short places (3 ^ n)) 3 e (le-ltb places (3 ^ n) h)
 
 -- what is known where nothing is refused
 pub record Listable (n : ℕ) (t : List ℕ) (places : ℕ) : Type 0 where
@@ -35,7 +35,7 @@ pub record Listable (n : ℕ) (t : List ℕ) (places : ℕ) : Type 0 where
 
 pub listable : (n : ℕ) (t : List ℕ) (places : ℕ) → primesRefuses n t places ≡ 0 → Listable n t places
 listable n t places e =
-    let none = four-none (tableConditions n t) tt (short places (3 ^ n)) e in record { table = accepted n t (none .0); enough = ltb-false places (3 ^ n) (none .1) }
+    let none = last-none (tableConditions n t) tt (short places (3 ^ n)) 3 e in record { table = accepted n t (none .0); enough = ltb-false places (3 ^ n) (none .1) }
 
 -- a call that refuses, and one that writes the list
 module _ (n : ℕ) (t list old : List ℕ) where

@@ -5,7 +5,7 @@ use mathlib.Core.Bool.{Bool, true, false, not, _&&_, _||_}
 use mathlib.Core.List.{List}
 use Prim.Native.Nat.{ℕ}
 use borrow.Author.Needs.{needs}
-use Rattle.cube.specs.Words.{onSet, offSet, Cover, coverMatches, rowsOf}
+use Rattle.cube.specs.Words.{onSet, offSet, Cover, coverMatches}
 use Rattle.checking.specs.Check.{isWrong}
 use Rattle.checking.proofs.is_wrong.Statement.{statement}
 use Rattle.checking.proofs.is_wrong.Tie as tie
@@ -34,21 +34,18 @@ module _ (t : List ℕ) (rs : Cover) (c : ℕ) where
 shared-slice-read-cell : tie.Need-shared-slice-read-cell
 shared-slice-read-cell c = search needs
 
-cast-matches : tie.Need-cast-matches
-cast-matches c = search needs
-
-matches-requires : tie.Need-matches-requires
-matches-requires c κs = search needs
+has-requires : tie.Need-has-requires
+has-requires c κs = search needs
 
 returns : tie.Need-returns
-returns c =
-    let s = c .before .before .before .before .before .before in
-    matched (s .args .table .now) (rowsOf (s .args .values .now) (s .args .cares .now)) (s .args .c) (sym (c .before .matches .ensures) ∙ c .if1 .taken)
+returns c = λ rs e.
+    let s = c .before .before .before .before in
+    matched (s .args .table .now) rs (s .args .c) (sym e ∙ sym (c .before .has .ensures) ∙ c .if1 .taken)
 
 returns-2 : tie.Need-returns-2
-returns-2 c =
-    let s = c .before .before .before .before .before .before in
-    unmatched (s .args .table .now) (rowsOf (s .args .values .now) (s .args .cares .now)) (s .args .c) (sym (c .before .matches .ensures) ∙ c .if1 .left)
+returns-2 c = λ rs e.
+    let s = c .before .before .before .before in
+    unmatched (s .args .table .now) rs (s .args .c) (sym e ∙ sym (c .before .has .ensures) ∙ c .if1 .left)
 
 pub is-wrong-spec : {M : Type 1} → statement M
-is-wrong-spec = tie.close (tie.spec shared-slice-read-cell cast-matches matches-requires returns returns-2)
+is-wrong-spec = tie.close (tie.spec shared-slice-read-cell has-requires returns returns-2)

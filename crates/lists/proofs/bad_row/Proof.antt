@@ -1,25 +1,15 @@
 -- `lists::bad_row` meets its contract: at each turn every row before place i is formed. Assumes nothing.
 use mathlib.Core.Path.{_≡_, sym, ap, _∙_}
-use mathlib.Core.Bool.{true, false, not}
-use mathlib.Core.List.{List}
+use mathlib.Core.Bool.{false, not}
 use Prim.Native.Nat.{ℕ, _-_, _<_, _≤_}
 use native.Mathlib.Omega.{arith}
 use lib.ListN.{length}
 use borrow.Author.Count.{below-more}
 use borrow.Author.Needs.{needs}
-use Rattle.cube.specs.Words.{formed, rowsOf}
-use Rattle.cube.specs.Calls.{badRow}
-use Rattle.numbers.proofs.Below.{some-found, some-none}
-use Rattle.cube.proofs.Lists.{rowIn, bad-place}
+use Rattle.cube.specs.Words.{formed}
+use Rattle.cube.proofs.Lists.{rowIn, bad-found, bad-none}
 use Rattle.lists.proofs.bad_row.Statement.{statement}
 use Rattle.lists.proofs.bad_row.Tie as tie
-
-module _ (n : ℕ) (vs ws : List ℕ) (e : length vs ≡ length ws) where
-  found : (i : ℕ) → i < length vs → not (formed n (rowIn vs ws i)) ≡ true → true ≡ badRow n (rowsOf vs ws)
-  found i l h = sym (bad-place n vs ws e ∙ some-found (length vs) (λ i. not (formed n (rowIn vs ws i))) i l h)
-
-  missing : ((i : ℕ) → i < length vs → not (formed n (rowIn vs ws i)) ≡ false) → false ≡ badRow n (rowsOf vs ws)
-  missing f = sym (bad-place n vs ws e ∙ some-none (length vs) (λ i. not (formed n (rowIn vs ws i))) f)
 
 abbrev Inv-loop : tie.InvT-loop
 Inv-loop n values cares i₀ i = (i ≤ length values) × ((k : ℕ) → k < i → not (formed n (rowIn values cares k)) ≡ false)
@@ -41,8 +31,8 @@ is-formed-requires c κs = search needs
 
 returns : tie.Need-returns Inv-loop μ-loop
 returns c =
-    found _ _ _ (c .before .before .before .before .before .before .before .before .pre .1) _ (c .before .before .before .before .loop-test .taken)
-    (ap not (sym (c .before .is-formed .ensures)) ∙ c .if1 .taken)
+    sym (bad-found _ _ _ (c .before .before .before .before .before .before .before .before .pre .1) _ (c .before .before .before .before .loop-test .taken)
+    (ap not (sym (c .before .is-formed .ensures)) ∙ c .if1 .taken))
 
 add-i : tie.Need-add-i Inv-loop μ-loop
 add-i c = search needs
@@ -55,7 +45,7 @@ loop-again c =
     (search needs, below-more _ _ (c .before .before .before .before .before .loop .inv .1) (ap not (sym (c .before .is-formed .ensures)) ∙ c .if1 .left))
 
 returns-2 : tie.Need-returns-2 Inv-loop μ-loop
-returns-2 c = missing _ _ _ (c .before .before .before .before .pre .1) (λ k l. c .before .loop .inv .1 k (omega arith))
+returns-2 c = sym (bad-none _ _ _ (c .before .before .before .before .pre .1) (λ k l. c .before .loop .inv .1 k (omega arith)))
 
 pub bad-row-spec : {M : Type 1} → statement M
 bad-row-spec =

@@ -1,0 +1,2 @@
+-- What is gathered from a list of rows.
+pub mod Gathered

@@ -1,0 +1,2 @@
+-- The lengths of two arrays that are not refused.
+pub mod Lengths
