@@ -34,6 +34,8 @@ int main(void) {
     places_for_tables();
     refusals_of_tables();
     every_row();
+    every_code();
+    every_place();
     every_small_list();
     random_lists();
     planned_lists();

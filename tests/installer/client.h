@@ -63,6 +63,8 @@ void random_tables(void);
 void places_for_tables(void);
 void refusals_of_tables(void);
 void every_row(void);
+void every_code(void);
+void every_place(void);
 void every_small_list(void);
 void random_lists(void);
 void planned_lists(void);

@@ -1,3 +1,4 @@
+#include <string.h>
 
 #include "client.h"
 
@@ -51,6 +52,42 @@ void every_row(void) {
                 wrong += rows_check(n, table, codes(n), &row.value, 1, &row.care, 1) != (ok ? 257 + (int32_t)value : -7);
             }
             expect(wrong == 0, "rows of width %zu with care %u: %d wrong answers", n, care, wrong);
+        }
+    }
+}
+
+/* Every code against every formed row, each a list of its own: the code alone is barred or wanted, so Check tells whether the row matches it. */
+void every_code(void) {
+    for (size_t n = 1; n <= WIDEST; n++) {
+        for (size_t cube = 0; cube < cubes(n); cube++) {
+            struct row row = row_of(n, cube);
+            for (size_t c = 0; c < codes(n); c++) {
+                uint8_t table[MOST_CODES];
+                memset(table, 2, sizeof table);
+                table[c] = 0;
+                try_check(n, table, codes(n), &row.value, 1, &row.care, 1);
+                table[c] = 1;
+                try_check(n, table, codes(n), &row.value, 1, &row.care, 1);
+            }
+        }
+    }
+}
+
+/* Lists of 255 rows that match the first code, and one among them, at each place, that alone matches the last code, which is wanted or barred. */
+void every_place(void) {
+    for (size_t n = 1; n <= WIDEST; n++) {
+        uint8_t table[MOST_CODES], last = (uint8_t)(codes(n) - 1);
+        memset(table, 0, sizeof table);
+        table[0] = 1;
+        for (size_t place = 0; place < 255; place++) {
+            struct list list;
+            for (size_t i = 0; i < 255; i++) {
+                put(&list, i, (struct row){i == place ? last : 0, last});
+            }
+            table[last] = 1;
+            expect(try_check(n, table, codes(n), list.values, 255, list.cares, 255) == 0, "row %zu of 255 does not count at width %zu", place, n);
+            table[last] = 0;
+            try_check(n, table, codes(n), list.values, 255, list.cares, 255);
         }
     }
 }
