@@ -141,6 +141,7 @@ def main(words):
     for document in "README.md", "docs/TRUST.md":
         said = re.search(r"([\d,]+)\s+lines\s+with\s+their\s+comments", (TOP / document).read_text())
         expect("the number of believed lines, %d, in %s" % (total, document), said is not None and int(said.group(1).replace(",", "")) == total)
+    expect("the sum of the believed lines, %d, in the table of docs/TRUST.md" % total, "\n| all | %d |\n" % total in (TOP / "docs" / "TRUST.md").read_text())
     counted = re.findall(r"^\| `(crates/\S+)` \| (\d+) \|$", (TOP / "docs" / "TRUST.md").read_text(), re.M)
     for page in pages():
         row = (str(page.relative_to(TOP)), str(lines(page)))
