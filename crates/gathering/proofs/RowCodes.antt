@@ -1,8 +1,8 @@
 -- The codes of a row, bit by bit: those that are its value but for untested bits below k. At k = 0 that is the value alone, at the width they are all
 -- codes that the row matches, and an untested bit k adds each of them raised by 2^k. Over any width. Assumes nothing.
 use mathlib.Core.Path.{_≡_, sym, ap, ap₂, _∙_, subst, subst⁻¹}
-use mathlib.Core.Logic.{_⊎_, inl, inr, ⊎-elim}
-use mathlib.Core.Bool.{Bool, false, not, _&&_, _||_, or-false}
+use mathlib.Core.Logic.{_⊎_, inl, inr, ⊎-elim, _↔_}
+use mathlib.Core.Bool.{Bool, true, false, not, _&&_, _||_, or-false}
 use Prim.Native.Nat.{ℕ, _+_, _-_, _*_, _/_, _%_, _^_, _<_, _≤_, min}
 use native.Mathlib.Nat.{div-one, mod-one, div-eq-of-lt, add-div-right, add-mod-right, mod-eq-of-lt, mod-lt, lt-of-le-of-lt}
 use native.Mathlib.Omega.{arith}
@@ -12,7 +12,7 @@ use lib.Pow.{pow-pos, split, shr-shr, mod-pow-add, field, mod-mod-pow}
 use lib.Bits.{bitAnd, and-mod, and-le-r}
 use borrow.Author.Tests.{eq-eqb, ne-eqb}
 use Rattle.cube.specs.Words.{rowMatches}
-use Rattle.matrix.specs.Sets.{hasBit, ColumnSet, has}
+use Rattle.matrix.specs.Sets.{columnLimit, hasBit, ColumnSet, has, hasRaised}
 use Rattle.numbers.proofs.Bools.{and-l, and-r, and-i, or-e, or-l, or-r, same, is-false, eqb-of}
 use Rattle.cube.proofs.Rows.{Formed}
 use Rattle.matrix.proofs.Bits.{digit-and}
@@ -29,31 +29,21 @@ below-pow x n e = omega (arith, sym (split x n) ∙ ap (λ (y : ℕ). y * 2 ^ n 
 
 module _ (v w : ℕ) where
   -- code x is the value, but for untested bits below k
-  pub agrees : ℕ → ℕ → Bool
-  agrees k x = eqb (x / 2 ^ k) (v / 2 ^ k) && eqb (bitAnd x w % 2 ^ k) (v % 2 ^ k)
+  pub record Agrees (k x : ℕ) : Type 0 where
+    pub above : x / 2 ^ k ≡ v / 2 ^ k
+    pub below : bitAnd x w % 2 ^ k ≡ v % 2 ^ k
 
-  record Agrees (k x : ℕ) : Type 0 where
-    above : x / 2 ^ k ≡ v / 2 ^ k
-    below : bitAnd x w % 2 ^ k ≡ v % 2 ^ k
-
-  agrees-means : (k x : ℕ) → T (agrees k x) → Agrees k x
-  unfolding agrees
-  agrees-means k x h =
-      let a : Bool = eqb (x / 2 ^ k) (v / 2 ^ k) in
-      let b : Bool = eqb (bitAnd x w % 2 ^ k) (v % 2 ^ k) in
-      record { above = eqb→eq _ _ (and-l a b h); below = eqb→eq _ _ (and-r a b h) }
-
-  agrees-by : (k x : ℕ) → Agrees k x → T (agrees k x)
-  unfolding agrees
-  agrees-by k x a = and-i (eqb (x / 2 ^ k) (v / 2 ^ k)) (eqb (bitAnd x w % 2 ^ k) (v % 2 ^ k)) (eqb-of _ _ (a .above)) (eqb-of _ _ (a .below))
+  -- the set holds these codes
+  abbrev pub Agreeing : ColumnSet → ℕ → Type 0
+  Agreeing set k = (x : ℕ) → T (has set x) ↔ Agrees k x
 
   -- ---- no bit
 
-  pub agrees-none : (x : ℕ) → eqb x v ≡ agrees 0 x
-  agrees-none x =
-      same (eqb x v) (agrees 0 x)
-      (λ h. agrees-by 0 x (record { above = ap (λ (y : ℕ). y / 1) (eqb→eq x v h); below = mod-one (bitAnd x w) ∙ sym (mod-one v) }))
-      (λ h. eqb-of x v (sym (div-one x) ∙ agrees-means 0 x h .above ∙ div-one v))
+  pub value-alone : (set : ColumnSet) → ((x : ℕ) → has set x ≡ eqb x v) → Agreeing set 0
+  value-alone set e x = (
+    λ h. record { above = ap (λ (y : ℕ). y / 1) (eqb→eq x v (subst T (e x) h)); below = mod-one (bitAnd x w) ∙ sym (mod-one v) },
+    λ a. subst⁻¹ T (e x) (eqb-of x v (sym (div-one x) ∙ a .above ∙ div-one v)),
+  )
 
   -- ---- one bit more
 
@@ -130,47 +120,55 @@ module _ (v w : ℕ) where
                 },
               )
 
-    -- one bit more, of a test that agrees with the row in the bits below k, where nothing that agrees passes the limit
-    module _ (f : ℕ → Bool) (is : (x : ℕ) → f x ≡ agrees k x) (limit x : ℕ) (within : Agrees (k + 1) x → x < limit) where
-      abbrev raised : Bool
-      raised = ltb x limit && (leb (2 ^ k) x && f (x - 2 ^ k))
+    bit-set : w / 2 ^ k % 2 ≡ 1 → hasBit w k ≡ true
+    unfolding hasBit
+    bit-set e = eq-eqb (w / 2 ^ k % 2) 1 e
 
-      at : (y : ℕ) → T (f y) → Agrees k y
-      at y h = agrees-means k y (subst T (is y) h)
+    bit-clear : (w / 2 ^ k % 2 ≡ 1 → ⊥) → hasBit w k ≡ false
+    unfolding hasBit
+    bit-clear e = ne-eqb (w / 2 ^ k % 2) 1 e
 
-      by : (y : ℕ) → Agrees k y → T (f y)
-      by y a = subst⁻¹ T (is y) (agrees-by k y a)
+    -- one bit more of a set, where no code passes the limit
+    module _ (set : ColumnSet) (is : Agreeing set k) (within : (x : ℕ) → Agrees (k + 1) x → x < columnLimit) where
+      raised-by : (x : ℕ) → 2 ^ k ≤ x → Agrees k (x - 2 ^ k) → x < columnLimit → T (hasRaised set (2 ^ k) x)
+      raised-by x l a m =
+          and-i (ltb x columnLimit) (leb (2 ^ k) x && has set (x - 2 ^ k)) (lt→ltb x columnLimit m)
+          (and-i (leb (2 ^ k) x) (has set (x - 2 ^ k)) (le→leb (2 ^ k) x l) (is (x - 2 ^ k) .1 a))
 
-      by-tested : w / 2 ^ k % 2 ≡ 1 → (f x || false) ≡ agrees (k + 1) x
-      by-tested e =
-          or-false (f x)
-          ∙ same (f x) (agrees (k + 1) x) (λ h. agrees-by (k + 1) x (tested-to e x (at x h))) (λ h. by x (tested-from e x (agrees-means (k + 1) x h)))
+      raised-is : (x : ℕ) → T (hasRaised set (2 ^ k) x) → (2 ^ k ≤ x) × Agrees k (x - 2 ^ k)
+      raised-is x h =
+          let r = and-r (ltb x columnLimit) (leb (2 ^ k) x && has set (x - 2 ^ k)) h in
+          (leb→le (2 ^ k) x (and-l (leb (2 ^ k) x) (has set (x - 2 ^ k)) r), is (x - 2 ^ k) .0 (and-r (leb (2 ^ k) x) (has set (x - 2 ^ k)) r))
 
-      by-untested : w / 2 ^ k % 2 ≡ 0 → (f x || raised) ≡ agrees (k + 1) x
-      by-untested e = same (f x || raised) (agrees (k + 1) x) (λ h. agrees-by (k + 1) x (⊎-elim (λ a. untested-to e x (at x a)) to (or-e (f x) raised h))) from
-        where
-          to : T raised → Agrees (k + 1) x
-          to h =
-              let r : Bool = leb (2 ^ k) x && f (x - 2 ^ k) in
-              let l : 2 ^ k ≤ x = leb→le (2 ^ k) x (and-l (leb (2 ^ k) x) (f (x - 2 ^ k)) (and-r (ltb x limit) r h)) in
-              let y : x - 2 ^ k + 2 ^ k ≡ x = omega arith in
-              subst (Agrees (k + 1)) y (raised-to e (x - 2 ^ k) (at (x - 2 ^ k) (and-r (leb (2 ^ k) x) (f (x - 2 ^ k)) (and-r (ltb x limit) r h))))
+      module _ (x : ℕ) (b : Bool) where
+        by-tested : w / 2 ^ k % 2 ≡ 1 → b ≡ has set x → T b ↔ Agrees (k + 1) x
+        by-tested one e = (λ h. tested-to one x (is x .0 (subst T e h)), λ a. subst⁻¹ T e (is x .1 (tested-from one x a)))
 
-          from : T (agrees (k + 1) x) → T (f x || raised)
-          from h =
-              let a = agrees-means (k + 1) x h in
-              ⊎-elim (λ b. or-l (f x) raised (by x b))
-              (λ b. or-r (f x) raised
-              (and-i (ltb x limit) (leb (2 ^ k) x && f (x - 2 ^ k)) (lt→ltb x limit (within a))
-              (and-i (leb (2 ^ k) x) (f (x - 2 ^ k)) (le→leb (2 ^ k) x (b .0)) (by (x - 2 ^ k) (b .1))))) (untested-from e x a)
+        by-untested : w / 2 ^ k % 2 ≡ 0 → b ≡ (has set x || hasRaised set (2 ^ k) x) → T b ↔ Agrees (k + 1) x
+        by-untested none e = (
+          λ h. ⊎-elim (λ o. untested-to none x (is x .0 o)) from-raised (or-e (has set x) (hasRaised set (2 ^ k) x) (subst T e h)),
+          λ a. subst⁻¹ T e (⊎-elim (λ o. or-l (has set x) (hasRaised set (2 ^ k) x) (is x .1 o)) (into-raised a) (untested-from none x a)),
+        )
+          where
+            from-raised : T (hasRaised set (2 ^ k) x) → Agrees (k + 1) x
+            from-raised h =
+                let r = raised-is x h in
+                let l = r .0 in
+                let y : x - 2 ^ k + 2 ^ k ≡ x = omega arith in
+                subst (Agrees (k + 1)) y (raised-to none (x - 2 ^ k) (r .1))
 
-      agrees-more : (f x || (not (hasBit w k) && raised)) ≡ agrees (k + 1) x
-      unfolding hasBit
-      agrees-more = go (ℕ-discrete (w / 2 ^ k % 2) 1)
-        where
-          go : Dec (w / 2 ^ k % 2 ≡ 1) → (f x || (not (eqb (w / 2 ^ k % 2) 1) && raised)) ≡ agrees (k + 1) x
-          go (yes e) = ap (λ (b : Bool). f x || (not b && raised)) (eq-eqb (w / 2 ^ k % 2) 1 e) ∙ by-tested e
-          go (no e) = ap (λ (b : Bool). f x || (not b && raised)) (ne-eqb (w / 2 ^ k % 2) 1 e) ∙ by-untested (omega arith)
+            into-raised : Agrees (k + 1) x → (2 ^ k ≤ x) × Agrees k (x - 2 ^ k) → T (has set x || hasRaised set (2 ^ k) x)
+            into-raised a o = or-r (has set x) (hasRaised set (2 ^ k) x) (raised-by x (o .0) (o .1) (within x a))
+
+        by-bit : b ≡ (has set x || (not (hasBit w k) && hasRaised set (2 ^ k) x)) → T b ↔ Agrees (k + 1) x
+        by-bit e = go (ℕ-discrete (w / 2 ^ k % 2) 1)
+          where
+            with-flag : {t : Bool} → hasBit w k ≡ t → b ≡ (has set x || (not t && hasRaised set (2 ^ k) x))
+            with-flag d = e ∙ ap (λ (t : Bool). has set x || (not t && hasRaised set (2 ^ k) x)) d
+
+            go : Dec (w / 2 ^ k % 2 ≡ 1) → T b ↔ Agrees (k + 1) x
+            go (yes d) = by-tested d (with-flag (bit-set d) ∙ or-false (has set x))
+            go (no d) = by-untested (omega arith) (with-flag (bit-clear d))
 
   -- ---- all bits
 
@@ -191,18 +189,18 @@ module _ (v w : ℕ) where
     agrees-of : (x : ℕ) → x < 2 ^ n → bitAnd x w ≡ v → Agrees n x
     agrees-of x l e = record { above = div-eq-of-lt l ∙ sym (div-eq-of-lt row-value-lt); below = ap (λ (y : ℕ). y % 2 ^ n) e }
 
+    -- a bit of the row more
+    pub row-more : (k : ℕ) → k < n → 2 ^ n ≤ columnLimit → (set more : ColumnSet) → Agreeing set k
+        → ((x : ℕ) → has more x ≡ (has set x || (not (hasBit w k) && hasRaised set (2 ^ k) x))) → Agreeing more (k + 1)
+    row-more k l wide set more is e x =
+        by-bit (f .inside) k set is (λ y a. let b = agrees-code (k + 1) y (omega arith) a in omega arith) x (has more x) (e x)
+
     -- in the end the set holds the codes that the row matches
-    pub row-exactly : (set : ColumnSet) → ((x : ℕ) → has set x ≡ agrees n x) → HoldsExactly n (rowMatches (record { value = v; care = w })) set
+    pub row-exactly : (set : ColumnSet) → Agreeing set n → HoldsExactly n (rowMatches (record { value = v; care = w })) set
     unfolding rowMatches
     row-exactly set is = record {
       codes = λ c l.
-          is c ∙ same (agrees n c) (eqb (bitAnd c w) v) (λ h. eqb-of (bitAnd c w) v (matches-of c (agrees-means n c h)))
-          (λ h. agrees-by n c (agrees-of c l (eqb→eq (bitAnd c w) v h)));
-      no-other = λ c l.
-          is c ∙ is-false (agrees n c) (λ h. let b = agrees-code n c (omega arith) (agrees-means n c h) in omega arith);
+          same (has set c) (eqb (bitAnd c w) v) (λ h. eqb-of (bitAnd c w) v (matches-of c (is c .0 h)))
+          (λ h. is c .1 (agrees-of c l (eqb→eq (bitAnd c w) v h)));
+      no-other = λ c l. is-false (has set c) (λ h. let b = agrees-code n c (omega arith) (is c .0 h) in omega arith);
     }
-
-    -- a bit of the row
-    module _ (k : ℕ) (l : k < n) (limit : ℕ) (wide : 2 ^ n ≤ limit) (g : ℕ → Bool) (is : (x : ℕ) → g x ≡ agrees k x) where
-      pub row-more : (x : ℕ) → (g x || (not (hasBit w k) && (ltb x limit && (leb (2 ^ k) x && g (x - 2 ^ k))))) ≡ agrees (k + 1) x
-      row-more x = agrees-more (f .inside) k g is limit x (λ a. let b = agrees-code (k + 1) x (omega arith) a in omega arith)
