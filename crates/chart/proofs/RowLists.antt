@@ -1,5 +1,5 @@
 -- The rows of the chart on parallel arrays: written one by one from the front, they leave the others as they were; they are the chart, a row for each
--- prime; and what is prepared, written and answered is what Chart promises. Assumes nothing.
+-- prime that serves; and what is prepared, written and answered is what Chart promises. Assumes nothing.
 use mathlib.Core.Path.{_≡_, refl, sym, _∙_, ap, ap₂}
 use Prim.Native.Nat.{ℕ, zero, suc, _+_, _<_, _≤_}
 use native.Mathlib.Omega.{arith}
@@ -8,7 +8,7 @@ use mathlib.Core.List.{List, [], _∷_, _++_, append-assoc, map}
 use lib.ListN.{length, set, drop, take, getD, length-append, length-drop}
 use lib.Seq.{drop-cons, set-at, take-suc, take-length}
 use borrow.Table.Elements.{map-app}
-use Rattle.cube.specs.Words.{primesOf}
+use Rattle.cube.specs.Words.{servingPrimesOf}
 use Rattle.cube.specs.Calls.{answered, countAnswer, written}
 use Rattle.cube.specs.declared.Counted.{Counted}
 use Rattle.chart_arrays.specs.Steps.{primeAt, IsChart}
@@ -48,7 +48,7 @@ module _ (c : Arrays) where
       rw (add-one, drop-cons old m blank h)
       (set-at (firstChartRows c m) _ _ (rowAt c m) m (length-first m) ∙ sym (append-assoc (firstChartRows c m) (rowAt c m ∷ []) (drop (suc m) old)))
 
--- ---- a row for each prime
+-- ---- a row for each prime that serves
 
 module _ (n : ℕ) (t : List ℕ) (c : Arrays) (h : IsChart n t c) where
   row-is : (i : ℕ) → i < c .rows → rowAt c i ≡ chartRow n t (primeAt n t i)
@@ -56,16 +56,16 @@ module _ (n : ℕ) (t : List ℕ) (c : Arrays) (h : IsChart n t c) where
       ap (λ (x : ℕ). record { cube = x; word = getD (c .words) i 0; literals = getD (c .literals) i 0 }) (h .cubes i l)
       ∙ ap₂ (λ (x y : ℕ). record { cube = primeAt n t i; word = x; literals = y }) (h .words i l) (h .literals i l)
 
-  first-are : (m : ℕ) → m ≤ c .rows → firstChartRows c m ≡ map (chartRow n t) (take m (primesOf n t))
+  first-are : (m : ℕ) → m ≤ c .rows → firstChartRows c m ≡ map (chartRow n t) (take m (servingPrimesOf n t))
   unfolding firstChartRows
   first-are zero l = refl
   first-are (suc m) l =
       ap₂ (λ (xs : List ChartRow) (x : ChartRow). xs ++ x ∷ []) (first-are m (omega arith)) (row-is m (omega arith))
-      ∙ sym (map-app (chartRow n t) (take m (primesOf n t)) (primeAt n t m ∷ []))
-      ∙ ap (map (chartRow n t)) (sym (take-suc (primesOf n t) m 0 (omega (arith, h .rows))))
+      ∙ sym (map-app (chartRow n t) (take m (servingPrimesOf n t)) (primeAt n t m ∷ []))
+      ∙ ap (map (chartRow n t)) (sym (take-suc (servingPrimesOf n t) m 0 (omega (arith, h .rows))))
 
   pub chart-rows : arrayRows c ≡ chartOf n t
-  chart-rows = first-are (c .rows) (omega arith) ∙ ap (λ (m : ℕ). map (chartRow n t) (take m (primesOf n t))) (h .rows) ∙ ap (map (chartRow n t)) (take-length (primesOf n t))
+  chart-rows = first-are (c .rows) (omega arith) ∙ ap (λ (m : ℕ). map (chartRow n t) (take m (servingPrimesOf n t))) (h .rows) ∙ ap (map (chartRow n t)) (take-length (servingPrimesOf n t))
 
 -- ---- what Chart promises
 

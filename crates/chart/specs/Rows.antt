@@ -4,7 +4,7 @@
 use Prim.Native.Nat.{ℕ}
 use mathlib.Core.List.{List, map}
 use lib.ListN.{length}
-use Rattle.cube.specs.Words.{cubeLiterals, primesOf}
+use Rattle.cube.specs.Words.{cubeLiterals, servingPrimesOf}
 use Rattle.cube.specs.Calls.{Listed}
 use Rattle.cube.specs.declared.Counted.{Counted}
 use Rattle.primes.specs.Primes.{primesRefuses}
@@ -15,9 +15,9 @@ use Rattle.chart.specs.declared.ChartRow.{ChartRow}
 abbrev pub chartRow : ℕ → List ℕ → ℕ → ChartRow
 chartRow n t q = record { cube = q; word = columnsOf n t q; literals = cubeLiterals n q }
 
--- "one per prime in that order"
+-- "one per prime in that order", of which document 02 leaves "only primes that match a wanted code"
 abbrev pub chartOf : ℕ → List ℕ → List ChartRow
-chartOf n t = map (chartRow n t) (primesOf n t)
+chartOf n t = map (chartRow n t) (servingPrimesOf n t)
 
 -- What Chart promises about its answer and the lent rows, refused input included: what every call that writes a list promises.
 abbrev pub Charted : ℕ → List ℕ → List ChartRow → List ChartRow → Counted → Type 0

@@ -1,8 +1,8 @@
-// Chart: a lent list of rows, one per prime. The core on parallel arrays, `chart_arrays::build`, finds what they hold; here
+// Chart: a lent list of rows, one per prime that serves. The core on parallel arrays, `chart_arrays::build`, finds what they hold; here
 // they are copied into the lent rows.
 //
 //     let mut rows = [ChartRow { cube: 0, word: 0, literals: 0 }; 9];
-//     chart::chart(2, &[1, 0, 0, 2], &mut rows)   // count 2: cube 0 (00) with the word 1, cube 4 (11) with the word 0
+//     chart::chart(2, &[1, 0, 0, 2], &mut rows)   // count 1: cube 0 (00) with the word 1; 11 matches no wanted code
 use chart_arrays::Arrays;
 use cube::Counted;
 use spelling::MOST_CUBES;
@@ -84,7 +84,8 @@ fn answer(prepared: Prepared) -> Counted
     Counted::Count(prepared.chart.rows)
 }
 
-// Writes the chart of a table into the first of the lent rows, one per prime. Answers how many there are, or the number of the refusal.
+// Writes the chart of a table into the first of the lent rows, one per prime that matches a wanted code. Answers how many there are, or the number of
+// the refusal.
 pub fn chart(n: usize, table: &[u8], rows: &mut [ChartRow]) -> Counted
     ensures { λ r. ⌜ Charted n (now (table .entry)) (now (rows .entry)) (now (rows .exit)) r ⌝ }
 {

@@ -1,7 +1,8 @@
--- The words of codes: a word of m codes is below 2^m, bit c of it is the test of c, and words of the same tests are the same. Assumes nothing.
+-- The words of codes: a word of m codes is below 2^m, bit c of it is the test of c, words of the same tests are the same, and a word is 0 where none passes.
+-- Assumes nothing.
 use mathlib.Core.Path.{_≡_, refl, sym, ap, ap₂, _∙_}
 use mathlib.Core.Logic.{⊎-elim}
-use mathlib.Core.Bool.{Bool, true, false, _&&_}
+use mathlib.Core.Bool.{Bool, true, false, _&&_, _||_}
 use Prim.Native.Nat.{ℕ, zero, suc, _+_, _*_, _-_, _^_, _/_, _%_, _<_, _≤_}
 use native.Mathlib.Nat.{not-suc-le-zero, le-of-suc-le-suc, eq-or-lt-of-le, lt-suc-self, pow-suc, mul-assoc, div-eq-of-lt, add-mul-div-right, mod-eq-of-lt, zero-add, lt-of-lt-of-le}
 use native.Mathlib.Numerals.{add-one}
@@ -9,7 +10,7 @@ use native.Mathlib.Omega.{arith}
 use lib.Dec.{eqb, ltb, lit<}
 use lib.Pow.{pow-pos, pow-add, pow-mono}
 use borrow.Author.Tests.{lt-ltb, le-ltb}
-use Rattle.numbers.specs.Below.{flag}
+use Rattle.numbers.specs.Below.{flag, some}
 use Rattle.numbers.proofs.Bools.{lt-or-le}
 use Rattle.numbers.proofs.Below.{flag-lt}
 use Rattle.matrix.specs.Sets.{hasBit, has}
@@ -33,6 +34,16 @@ pub word-same : (m : ℕ) (f g : ℕ → Bool) → ((c : ℕ) → c < m → f c 
 unfolding wordOf
 word-same zero f g e = refl
 word-same (suc m) f g e = ap₂ (λ (i : ℕ) (x : Bool). i + flag x * 2 ^ m) (word-same m f g (λ c l. e c (omega arith))) (e m (lt-suc-self m))
+
+-- a word is not empty exactly when some code passes
+pub word-some : (m : ℕ) (f : ℕ → Bool) → some m f ≡ ltb 0 (wordOf m f)
+unfolding wordOf some
+word-some zero f = refl
+word-some (suc m) f = go (f m) (word-some m f)
+  where
+    go : (b : Bool) → some m f ≡ ltb 0 (wordOf m f) → (b || some m f) ≡ ltb 0 (wordOf m f + flag b * 2 ^ m)
+    go true e = sym (lt-ltb 0 (wordOf m f + flag true * 2 ^ m) (omega (arith, pow-pos m)))
+    go false e = let same : wordOf m f ≡ wordOf m f + flag false * 2 ^ m = omega arith in e ∙ ap (ltb 0) same
 
 -- ---- bit c of the word is the test of c
 

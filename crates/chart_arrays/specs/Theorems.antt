@@ -1,11 +1,12 @@
 -- What a chart row's word tells, as a statement over any width. `proofs/Theorems.antt` proves it. Assumes nothing.
 use mathlib.Core.Path.{_≡_}
+use mathlib.Core.Logic.{_↔_}
 use mathlib.Core.Bool.{_&&_}
 use mathlib.Core.List.{List}
 use Prim.Native.Nat.{ℕ, _^_, _/_, _%_, _<_}
 use lib.Dec.{T, ltb}
 use Rattle.numbers.specs.Below.{flag}
-use Rattle.cube.specs.Words.{onSet, cubeMatches}
+use Rattle.cube.specs.Words.{onSet, cubeMatches, serves}
 use Rattle.chart_arrays.specs.Columns.{column, columnsOf}
 
 -- bit c of a word
@@ -20,3 +21,5 @@ pub record WordTells (n : ℕ) (t : List ℕ) (q : ℕ) : Type 0 where
   pub tells : (c : ℕ) → bit (columnsOf n t q) c ≡ flag (ltb c (2 ^ n) && column n t q c)
   -- "Free and barred codes are never columns."
   pub only-wanted : (c : ℕ) → bit (columnsOf n t q) c ≡ 1 → (c < 2 ^ n) × T (onSet t c) × T (cubeMatches n q c)
+  -- the word is empty exactly when the cube matches no wanted code
+  pub not-empty : T (serves n t q) ↔ (0 < columnsOf n t q)

@@ -1,4 +1,4 @@
-// The chart: a row for each prime, a column for each wanted code.
+// The chart: a row for each prime that serves, a column for each wanted code.
 //
 //     chart_arrays::cube_columns(2, &[1, 0, 2, 1], 2)     // cube 02 matches 0 and 1, of which 0 is wanted: the word 1
 use matrix::columns;
@@ -102,7 +102,7 @@ fn fill_literals(n: usize, cubes: &[u16], count: usize, into: &mut [u8])
     }
 }
 
-// The chart on parallel arrays: how many rows there are, and place i of each array for the prime at place i.
+// The chart on parallel arrays: how many rows there are, and place i of each array for the prime at place i of those that serve.
 pub struct Arrays {
     pub rows: usize,
     pub cubes: [u16; MOST_CUBES],
@@ -116,7 +116,7 @@ pub fn build(n: usize, table: &[u8]) -> Arrays
     ensures { λ r. ⌜ IsChart n (now (table .entry)) r ⌝ }
 {
     let mut cubes = [0u16; MOST_CUBES];
-    let rows = primes::list_primes(n, table, &mut cubes);
+    let rows = primes::list_serving_primes(n, table, &mut cubes);
     let mut words = [0u64; MOST_CUBES];
     fill_words(n, table, &cubes, rows, &mut words);
     let mut literals = [0u8; MOST_CUBES];

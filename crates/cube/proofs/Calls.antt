@@ -10,7 +10,7 @@ use lib.Dec.{T, eqb, ltb, lit<}
 use lib.ListN.{length, take, drop}
 use lib.Pow.{pow-mono}
 use borrow.Author.Tests.{ltb-false, lt-ltb, le-ltb, eq-eqb, eqb-true, not-false}
-use Rattle.cube.specs.Words.{rowsOf, prime, essential, primesOf, essentialsOf}
+use Rattle.cube.specs.Words.{rowsOf, essential, essentialsOf, servingPrime, servingPrimesOf}
 use Rattle.cube.specs.Calls.{widest, badWidth, badLength, badCell, short, unequalLengths, mostRows, tooManyRows, badRow, Condition, when, firstOf, tableConditions, listConditions, Answer, refuses, gives, answered, written, Listed}
 use Rattle.cube.specs.declared.Counted.{Counted}
 use Rattle.cube.specs.declared.Counted.the-variants.{Count, Refused}
@@ -41,10 +41,10 @@ code-pairs-most n l = let m : n - 1 ≤ widest - 1 = omega arith in pow-mono m
 pub cubes-most : (n : ℕ) → n ≤ widest → 3 ^ n ≤ 3 ^ widest
 cubes-most n l = pow-le-pow-right {n = 3} (lit< tt) l
 
--- the primes and the essentials are at most all cubes
-pub primes-most : (n : ℕ) (t : List ℕ) → length (primesOf n t) ≤ 3 ^ n
-unfolding primesOf
-primes-most n t = those-length (prime n t) (3 ^ n)
+-- the primes that are listed and the essentials are at most all cubes
+pub primes-most : (n : ℕ) (t : List ℕ) → length (servingPrimesOf n t) ≤ 3 ^ n
+unfolding servingPrimesOf
+primes-most n t = those-length (servingPrime n t) (3 ^ n)
 
 pub essentials-most : (n : ℕ) (t : List ℕ) → length (essentialsOf n t) ≤ 3 ^ n
 unfolding essentialsOf

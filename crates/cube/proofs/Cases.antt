@@ -10,7 +10,7 @@ use native.Mathlib.Omega.{arith}
 use lib.Dec.{T, eqb, eqb→eq}
 use lib.ListN.{length}
 use Rattle.numbers.specs.Below.{every, some, those, among, tabulate}
-use Rattle.cube.specs.Words.{Row, Cover, rowMatches, formed, ones, eachRow, allFormed, coverMatches, coverLiterals, implements, cubeMatches, cubeLiterals, within, implicant, prime, alone, essential, primesOf, essentialsOf}
+use Rattle.cube.specs.Words.{Row, Cover, rowMatches, formed, ones, eachRow, allFormed, coverMatches, coverLiterals, implements, cubeMatches, cubeLiterals, within, implicant, prime, alone, essential, essentialsOf, serves, servingPrimesOf}
 use Rattle.cube.specs.Cases.{Case, tableOf, Holds, AllHold, cases}
 use Rattle.numbers.proofs.Bools.{and-l, and-r}
 use Rattle.cube.proofs.Independent.{Mark, apartFrom, independent, leastLiterals, bounded}
@@ -22,7 +22,7 @@ record Certificate : Type 0 where
 
 -- the counts of the case; the list; the marks
 abbrev countsRight : Case → Bool
-countsRight k = eqb (length (primesOf (k .width) (tableOf k))) (k .primes) && eqb (length (essentialsOf (k .width) (tableOf k))) (k .essentials)
+countsRight k = eqb (length (servingPrimesOf (k .width) (tableOf k))) (k .primes) && eqb (length (essentialsOf (k .width) (tableOf k))) (k .essentials)
 
 abbrev listRight : Case → Cover → Bool
 listRight k rs =
@@ -45,7 +45,7 @@ case-holds k w h =
     let t = tableOf k in
     let rs = w .list in
     let ms = w .marks in
-    let counts = both (length (primesOf n t)) (k .primes) (length (essentialsOf n t)) (k .essentials) (and-l (countsRight k) (listRight k rs && marksRight k ms) h) in
+    let counts = both (length (servingPrimesOf n t)) (k .primes) (length (essentialsOf n t)) (k .essentials) (and-l (countsRight k) (listRight k rs && marksRight k ms) h) in
     let rest = and-r (countsRight k) (listRight k rs && marksRight k ms) h in
     let right = and-l (listRight k rs) (marksRight k ms) rest in
     let good = and-l (allFormed n rs && implements n t rs) (eqb (length rs) (k .rows) && eqb (coverLiterals n rs) (k .bits)) right in
@@ -101,5 +101,5 @@ certificates =
     ∷ []
 
 pub all-cases : AllHold cases
-unfolding cases certificates row mark certified certifies among tableOf every some those tabulate rowMatches formed ones cubeMatches cubeLiterals within implicant prime alone essential primesOf essentialsOf coverMatches implements coverLiterals eachRow apartFrom independent leastLiterals
+unfolding cases certificates row mark certified certifies among tableOf every some those tabulate rowMatches formed ones cubeMatches cubeLiterals within implicant prime alone essential essentialsOf serves servingPrimesOf coverMatches implements coverLiterals eachRow apartFrom independent leastLiterals
 all-cases = all-hold cases certificates tt

@@ -1,18 +1,18 @@
 -- The codes of a cube, ascending, split at its first untested digit: those of the 0 half come before those of the 1 half, because every code
--- of the 0 half is below the value of the 1 half, its lowest code. So an implicant splits as its codes do. Assumes nothing.
+-- of the 0 half is below the value of the 1 half, its lowest code. So an implicant splits as its codes do, and so does a cube that serves. Assumes nothing.
 use mathlib.Core.Path.{_≡_, refl, sym, ap, ap₂, _∙_, subst, subst⁻¹}
 use mathlib.Core.Logic.{_⊎_, inl, inr, ⊎-elim}
-use mathlib.Core.Bool.{Bool, true, false, cond, not, _&&_, _||_, and-comm, and-assoc, and-true}
+use mathlib.Core.Bool.{Bool, true, false, cond, not, _&&_, _||_, and-true, and-false, or-assoc, or-comm, or-false}
 use mathlib.Core.List.{List, [], _∷_, _++_}
 use Prim.Native.Nat.{ℕ, zero, suc, _+_, _*_, _^_, _/_, _%_, _<_, _≤_}
 use native.Mathlib.Nat.{not-suc-le-zero, le-of-suc-le-suc, pow-suc}
 use native.Mathlib.Omega.{arith}
 use lib.Dec.{T, eqb, lit<}
 use lib.ListN.{length}
-use Rattle.numbers.specs.Below.{flag, every, those}
-use Rattle.cube.specs.Words.{offSet, fits, tested, digit, cubeMatches, cubeLiterals, valueOf, codesOf, implicant}
-use Rattle.numbers.proofs.Bools.{and-l, and-r}
-use Rattle.numbers.proofs.Below.{those-one, those-split, those-length, flag-lt}
+use Rattle.numbers.specs.Below.{flag, some, those}
+use Rattle.cube.specs.Words.{onSet, offSet, fits, tested, digit, cubeMatches, cubeLiterals, valueOf, codesOf, implicant, serves}
+use Rattle.numbers.proofs.Bools.{and-l, and-r, not-or}
+use Rattle.numbers.proofs.Below.{every-fails, those-one, those-split, those-length, flag-lt}
 use Rattle.cube.proofs.Digits.{putDigit, last-lt, is-tested, is-untested, matches-last, matches-rest, matches-at, value-at, value-lt, value-matches, value-alone, contained-matches, put-narrower, put-literals, matches-halves, fits-e}
 
 -- the value is the lowest code
@@ -83,39 +83,64 @@ unfolding cubeLiterals
 literals-le zero q = omega arith
 literals-le (suc n) q = omega (arith, literals-le n (q / 3), flag-lt (tested (q % 3)))
 
--- ---- implicants by their codes
+-- ---- implicants, and cubes that serve, by their codes
 
--- no code of the list is barred
-unfoldable clear : List ℕ → List ℕ → Bool
-clear t [] = true
-clear t (c ∷ cs) = not (offSet t c) && clear t cs
+-- a code of the list passes
+unfoldable anyOf : (ℕ → Bool) → List ℕ → Bool
+anyOf g [] = false
+anyOf g (c ∷ cs) = g c || anyOf g cs
 
-clear-append : (t xs ys : List ℕ) → clear t (xs ++ ys) ≡ (clear t xs && clear t ys)
-unfolding clear
-clear-append t [] ys = refl
-clear-append t (x ∷ xs) ys = ap (λ (b : Bool). not (offSet t x) && b) (clear-append t xs ys) ∙ sym (and-assoc (not (offSet t x)) (clear t xs) (clear t ys))
+module _ (g : ℕ → Bool) where
+  any-append : (xs ys : List ℕ) → anyOf g (xs ++ ys) ≡ (anyOf g xs || anyOf g ys)
+  unfolding anyOf
+  any-append [] ys = refl
+  any-append (x ∷ xs) ys = ap (λ (b : Bool). g x || b) (any-append xs ys) ∙ sym (or-assoc (g x) (anyOf g xs) (anyOf g ys))
 
-clear-cond : (t : List ℕ) (b : Bool) (m : ℕ) → clear t (cond b (m ∷ []) []) ≡ (not b || not (offSet t m))
-unfolding clear
-clear-cond t true m = and-true (not (offSet t m))
-clear-cond t false m = refl
+  any-cond : (b : Bool) (m : ℕ) → anyOf g (cond b (m ∷ []) []) ≡ (g m && b)
+  unfolding anyOf
+  any-cond true m = or-false (g m) ∙ sym (and-true (g m))
+  any-cond false m = sym (and-false (g m))
 
-clear-those : (t : List ℕ) (m : ℕ) (f : ℕ → Bool) → clear t (those m f) ≡ every m (λ c. not (f c) || not (offSet t c))
-unfolding those every clear
-clear-those t zero f = refl
-clear-those t (suc m) f =
-    clear-append t (those m f) (cond (f m) (m ∷ []) []) ∙ ap₂ _&&_ (clear-those t m f) (clear-cond t (f m) m)
-    ∙ and-comm (every m (λ c. not (f c) || not (offSet t c))) (not (f m) || not (offSet t m))
+  any-those : (m : ℕ) (f : ℕ → Bool) → anyOf g (those m f) ≡ some m (λ c. g c && f c)
+  unfolding those some anyOf
+  any-those zero f = refl
+  any-those (suc m) f =
+      any-append (those m f) (cond (f m) (m ∷ []) []) ∙ ap₂ _||_ (any-those m f) (any-cond (f m) m) ∙ or-comm (some m (λ c. g c && f c)) (g m && f m)
 
-implicant-clear : (n : ℕ) (t : List ℕ) (q : ℕ) → implicant n t q ≡ clear t (codesOf n q)
-unfolding implicant codesOf
-implicant-clear n t q = sym (clear-those t (2 ^ n) (cubeMatches n q))
+  any-codes : (n q : ℕ) → some (2 ^ n) (λ c. g c && cubeMatches n q c) ≡ anyOf g (codesOf n q)
+  unfolding codesOf
+  any-codes n q = sym (any-those (2 ^ n) (cubeMatches n q))
 
-pub implicant-one : (n : ℕ) (t : List ℕ) (q c : ℕ) → codesOf n q ≡ c ∷ [] → implicant n t q ≡ not (offSet t c)
-unfolding clear
-implicant-one n t q c e = implicant-clear n t q ∙ ap (clear t) e ∙ and-true (not (offSet t c))
+  any-one : (n q c : ℕ) → codesOf n q ≡ c ∷ [] → anyOf g (codesOf n q) ≡ g c
+  unfolding anyOf
+  any-one n q c e = ap (anyOf g) e ∙ or-false (g c)
 
-pub implicant-two : (n : ℕ) (t : List ℕ) (q a b : ℕ) → codesOf n q ≡ codesOf n a ++ codesOf n b → implicant n t q ≡ (implicant n t a && implicant n t b)
-implicant-two n t q a b e =
-    implicant-clear n t q ∙ ap (clear t) e ∙ clear-append t (codesOf n a) (codesOf n b)
-    ∙ ap₂ _&&_ (sym (implicant-clear n t a)) (sym (implicant-clear n t b))
+  any-two : (n q a b : ℕ) → codesOf n q ≡ codesOf n a ++ codesOf n b → anyOf g (codesOf n q) ≡ (anyOf g (codesOf n a) || anyOf g (codesOf n b))
+  any-two n q a b e = ap (anyOf g) e ∙ any-append (codesOf n a) (codesOf n b)
+
+module _ (n : ℕ) (t : List ℕ) where
+  implicant-none : (q : ℕ) → implicant n t q ≡ not (anyOf (offSet t) (codesOf n q))
+  unfolding implicant
+  implicant-none q = every-fails (2 ^ n) (cubeMatches n q) (offSet t) ∙ ap not (any-codes (offSet t) n q)
+
+  serves-any : (q : ℕ) → serves n t q ≡ anyOf (onSet t) (codesOf n q)
+  unfolding serves
+  serves-any q = any-codes (onSet t) n q
+
+  -- a cube of one code
+  module _ (q c : ℕ) (e : codesOf n q ≡ c ∷ []) where
+    pub implicant-one : implicant n t q ≡ not (offSet t c)
+    implicant-one = implicant-none q ∙ ap not (any-one (offSet t) n q c e)
+
+    pub serves-one : serves n t q ≡ onSet t c
+    serves-one = serves-any q ∙ any-one (onSet t) n q c e
+
+  -- a cube of two halves
+  module _ (q a b : ℕ) (e : codesOf n q ≡ codesOf n a ++ codesOf n b) where
+    pub implicant-two : implicant n t q ≡ (implicant n t a && implicant n t b)
+    implicant-two =
+        implicant-none q ∙ ap not (any-two (offSet t) n q a b e) ∙ not-or (anyOf (offSet t) (codesOf n a)) (anyOf (offSet t) (codesOf n b))
+        ∙ sym (ap₂ _&&_ (implicant-none a) (implicant-none b))
+
+    pub serves-two : serves n t q ≡ (serves n t a || serves n t b)
+    serves-two = serves-any q ∙ any-two (onSet t) n q a b e ∙ sym (ap₂ _||_ (serves-any a) (serves-any b))

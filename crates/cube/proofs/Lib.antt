@@ -12,6 +12,7 @@ pub mod Cases
 pub mod Calls
 pub mod Lists
 pub mod McCluskey
+pub mod Removal
 pub mod Covers
 pub mod Pairs
 pub mod Minimum

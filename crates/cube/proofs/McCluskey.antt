@@ -12,16 +12,16 @@ use lib.Dec.{T, eqb, ltb, eqb→eq, lit<}
 use lib.ListN.{length, List·getD-eq-default}
 use borrow.Author.Tests.{ltb-false}
 use Rattle.numbers.specs.Below.{flag, some}
-use Rattle.cube.specs.Words.{cell, tested, digit, cubeMatches, cubeLiterals, valueOf, implicant, prime, essential, primesOf, essentialsOf}
+use Rattle.cube.specs.Words.{cell, tested, digit, cubeMatches, cubeLiterals, valueOf, implicant, prime, essential, primesOf, essentialsOf, serves, servingPrime, servingPrimesOf}
 use Rattle.cube.specs.Calls.{badCell}
-use Rattle.cube.specs.McCluskey.{isTerm, BinaryEquivalent, IdenticalExcept, Combination, Character, CheckMarked, PrimeImplicant, cross, SingleAsterisk, crosses, Terms, Agreement}
+use Rattle.cube.specs.McCluskey.{isTerm, BinaryEquivalent, IdenticalExcept, Combination, Character, CheckMarked, PrimeImplicant, cross, CrossedRow, SingleAsterisk, crosses, Terms, Agreement}
 use Rattle.numbers.proofs.Bools.{and-l, and-r, and-i, not-e, not-i, is-false, holds, eqb-of, lt-or-le}
 use Rattle.numbers.proofs.Below.{some-at, some-by, none-at, none-by, count-one, count-alone, those-each-once}
 use Rattle.cube.proofs.Digits.{putDigit, two, digit-lt, bit, bit-weight, put-lt, put-digit, put-other, put-between, put-narrower, value-lt, value-alone, fits-same}
 use Rattle.cube.proofs.Codes.{untested-falls, literals-le}
 use Rattle.cube.proofs.Implicants.{implicant-contained, implicant-split, implicant-code, expands, maximal, prime-is-maximal}
 use Rattle.cube.proofs.Positions.{of-places, value-bit, one-is}
-use Rattle.cube.proofs.Theorems.{meanings}
+use Rattle.cube.proofs.Theorems.{meanings, serves-at, serves-by}
 
 -- ---- terms
 
@@ -254,6 +254,19 @@ module _ (n : ℕ) (t : List ℕ) where
       let p = prime-from q (a .row) in
       (p .0, meanings n t .essential-is q .1 (p .1, (a .column, a .is-column .row, a .is-column .one, a .entry, λ i l x y. a .sole i (prime-to i l x) y)))
 
+  -- ---- rows with a cross
+
+  pub crossed-by : (q : ℕ) → PrimeImplicant n t q → T (serves n t q) → CrossedRow n t q
+  crossed-by q p h = let s = serves-at n t q h in record { row = p; column = s .0; is-column = record { row = s .1; one = s .2 }; entry = s .3 }
+
+  crossed-to : (q : ℕ) → q < 3 ^ n → T (servingPrime n t q) → CrossedRow n t q
+  crossed-to q l h = crossed-by q (prime-to q l (and-l (prime n t q) (serves n t q) h)) (and-r (prime n t q) (serves n t q) h)
+
+  crossed-from : (q : ℕ) → CrossedRow n t q → (q < 3 ^ n) × T (servingPrime n t q)
+  crossed-from q r =
+      let p = prime-from q (r .row) in
+      (p .0, and-i (prime n t q) (serves n t q) (p .1) (serves-by n t q (r .column) (r .is-column .row) (r .is-column .one) (r .entry)))
+
   -- ---- the crosses of a column
 
   module _ (c q : ℕ) (i : PrimeImplicant n t q) (m : T (cross n c q)) where
@@ -269,7 +282,7 @@ module _ (n : ℕ) (t : List ℕ) where
         count-alone (prime n t) (cross n c) (3 ^ n) p q e (k .0) (h .0) (k .1) y (h .1) m
 
   pub agreement : Agreement n t
-  unfolding primesOf essentialsOf
+  unfolding primesOf essentialsOf servingPrimesOf
   agreement = record {
     either-first = either-first n;
     characters = λ q. (character-is, λ h. implicant-character q (h .0) (h .1));
@@ -277,5 +290,6 @@ module _ (n : ℕ) (t : List ℕ) where
     essentials = λ q l. (essential-to q l, λ a. essential-from q a .1);
     one-cross = λ c q i m. (sole-counts c q i m, counts-sole c q i m);
     rows = those-each-once (3 ^ n) (prime n t) (PrimeImplicant n t) prime-to prime-from;
+    crossed = those-each-once (3 ^ n) (servingPrime n t) (CrossedRow n t) crossed-to crossed-from;
     single-asterisks = those-each-once (3 ^ n) (essential n t) (SingleAsterisk n t) essential-to essential-from;
   }

@@ -1,11 +1,11 @@
--- The cases a to j of document 01, gathered as one list under a common statement. Assumes nothing.
+-- The cases a to j of document 01, with document 02's count of primes for case d, gathered as one list under a common statement. Assumes nothing.
 use mathlib.Core.Path.{_≡_}
 use Prim.Native.Nat.{ℕ, _^_}
 use mathlib.Core.Bool.{cond}
 use mathlib.Core.List.{List, [], _∷_}
 use lib.ListN.{length}
 use Rattle.numbers.specs.Below.{among, tabulate}
-use Rattle.cube.specs.Words.{Cover, coverLiterals, primesOf, essentialsOf}
+use Rattle.cube.specs.Words.{Cover, coverLiterals, servingPrimesOf, essentialsOf}
 use Rattle.cube.specs.Minimum.{Minimum}
 
 -- "width; wanted; free; then primes, essentials, rows, bits"
@@ -22,9 +22,9 @@ pub record Case : Type 0 where
 unfoldable pub tableOf : Case → List ℕ
 tableOf k = tabulate (2 ^ k .width) 0 (λ c. cond (among c (k .wanted)) 1 (cond (among c (k .free)) 2 0))
 
--- the case has this many primes and essentials, and its shortest lists, among all lists, have this many rows and tested bits
+-- the case has this many primes that are listed and this many essentials, and its shortest lists, among all lists, have this many rows and tested bits
 pub record Holds (k : Case) : Type 0 where
-  pub primes : length (primesOf (k .width) (tableOf k)) ≡ k .primes
+  pub primes : length (servingPrimesOf (k .width) (tableOf k)) ≡ k .primes
   pub essentials : length (essentialsOf (k .width) (tableOf k)) ≡ k .essentials
   pub list : Cover
   pub minimum : Minimum (k .width) (tableOf k) list
@@ -45,8 +45,9 @@ case-b = record { width = 1; wanted = 0 ∷ 1 ∷ []; free = []; primes = 1; ess
 abbrev pub case-c : Case
 case-c = record { width = 2; wanted = 3 ∷ []; free = 1 ∷ []; primes = 1; essentials = 1; rows = 1; bits = 1 }
 
+-- "Case d then has one prime" (document 02): code 3 is free, so its cube serves nobody
 abbrev pub case-d : Case
-case-d = record { width = 2; wanted = 0 ∷ []; free = 3 ∷ []; primes = 2; essentials = 1; rows = 1; bits = 2 }
+case-d = record { width = 2; wanted = 0 ∷ []; free = 3 ∷ []; primes = 1; essentials = 1; rows = 1; bits = 2 }
 
 abbrev pub case-e : Case
 case-e = record { width = 3; wanted = 1 ∷ 2 ∷ 3 ∷ 4 ∷ 5 ∷ 6 ∷ []; free = []; primes = 6; essentials = 0; rows = 3; bits = 6 }

@@ -1,17 +1,17 @@
 -- Document 000 (McCluskey 1956) in its own words: binary characters and how they combine (section 3), the prime implicant table (section 4) and
 -- d-terms (section 10). Then the theorems that its p-terms and d-terms are document 01's wanted and free codes, its prime implicants and single
--- asterisk rows the primes and essentials, and its basis rows the rows of the shortest lists.
+-- asterisk rows the primes and essentials, its rows with a cross the primes that are reported, and its basis rows the rows of the shortest lists.
 -- A binary character of n positions is a cube number, below 3^n, and digit k is at the position of weight 2^k.
--- `proofs/McCluskey.antt` and `proofs/Basis.antt` prove the theorems. Assumes nothing.
+-- `McCluskey`, `Removal` and `Basis` of `proofs/` prove the theorems. Assumes nothing.
 use mathlib.Core.Path.{_≡_}
 use mathlib.Core.Logic.{_↔_}
 use mathlib.Core.Bool.{Bool, false, not, _||_}
 use mathlib.Core.List.{List, map}
 use Prim.Native.Nat.{ℕ, _+_, _^_, _/_, _%_, _<_, _≤_}
-use lib.Dec.{T}
+use lib.Dec.{T, eqb}
 use lib.ListN.{length}
 use Rattle.numbers.specs.Below.{flag, count, among, EachOnce}
-use Rattle.cube.specs.Words.{onSet, offSet, dontCare, Cover, coverLiterals, digit, cubeMatches, rowOf, numberOf, implicant, prime, essential, primesOf, essentialsOf}
+use Rattle.cube.specs.Words.{onSet, offSet, dontCare, Cover, coverLiterals, digit, cubeMatches, rowOf, numberOf, implicant, prime, essential, primesOf, essentialsOf, servingPrimesOf}
 use Rattle.cube.specs.Calls.{badCell}
 use Rattle.cube.specs.Minimum.{Minimum, FewestTerms}
 
@@ -85,6 +85,13 @@ pub record Column (n : ℕ) (t : List ℕ) (c : ℕ) : Type 0 where
 abbrev pub cross : ℕ → ℕ → ℕ → Bool
 cross n c q = cubeMatches n q c
 
+-- "McCluskey's primes after that removal" (document 02): a prime implicant that has a cross in some column
+pub record CrossedRow (n : ℕ) (t : List ℕ) (q : ℕ) : Type 0 where
+  pub row : PrimeImplicant n t q
+  pub column : ℕ
+  pub is-column : Column n t column
+  pub entry : T (cross n column q)
+
 -- "place an asterisk next to each row which contains the sole entry of any column"
 pub record SingleAsterisk (n : ℕ) (t : List ℕ) (q : ℕ) : Type 0 where
   pub row : PrimeImplicant n t q
@@ -134,11 +141,43 @@ pub record Agreement (n : ℕ) (t : List ℕ) : Type 0 where
   pub essentials : (q : ℕ) → q < 3 ^ n → T (essential n t q) ↔ SingleAsterisk n t q
   -- a row with a cross in a column has the sole entry there exactly when the column has one cross
   pub one-cross : (c q : ℕ) → PrimeImplicant n t q → T (cross n c q) → ((p : ℕ) → PrimeImplicant n t p → T (cross n c p) → p ≡ q) ↔ (crosses n t c ≡ 1)
-  -- so the primes listed are the rows of his table, and the essentials listed its single asterisk rows
+  -- so the rows of his table are his prime implicants
   pub rows : EachOnce (tableRows n t) (PrimeImplicant n t)
+  -- the primes listed are his rows that have a cross in some column, and the essentials listed his single asterisk rows
+  pub crossed : EachOnce (servingPrimesOf n t) (CrossedRow n t)
   pub single-asterisks : EachOnce (essentialsOf n t) (SingleAsterisk n t)
 
--- on basis rows: they belong to the shortest lists
+-- ---- his table without the rows that have no cross
+
+-- a single asterisk row of what is left
+pub record SingleAsteriskLeft (n : ℕ) (t : List ℕ) (q : ℕ) : Type 0 where
+  pub row : CrossedRow n t q
+  pub column : ℕ
+  pub is-column : Column n t column
+  pub entry : T (cross n column q)
+  pub sole : (p : ℕ) → CrossedRow n t p → T (cross n column p) → p ≡ q
+
+-- a selection of rows that are left
+pub record SelectionLeft (n : ℕ) (t selected : List ℕ) : Type 0 where
+  pub rows : (q : ℕ) → T (among q selected) → CrossedRow n t q
+  pub columns : (c : ℕ) → Column n t c → (q : ℕ) × T (among q selected) × T (cross n c q)
+
+-- basis rows of what is left
+pub record BasisRowsLeft (n : ℕ) (t selected : List ℕ) : Type 0 where
+  pub selection : SelectionLeft n t selected
+  pub fewest : (other : List ℕ) → SelectionLeft n t other → length selected ≤ length other
+
+-- the removal changes neither his single asterisk rows nor his basis rows
+pub record Removal (n : ℕ) (t : List ℕ) : Type 0 where
+  -- the rows that are not listed are those that have no cross
+  pub no-cross : (q : ℕ) → PrimeImplicant n t q → (count (eqb q) (servingPrimesOf n t) ≡ 0) ↔ ((c : ℕ) → Column n t c → T (cross n c q) → ⊥)
+  -- those of his table are those of what is left
+  pub single-asterisks : (q : ℕ) → SingleAsterisk n t q ↔ SingleAsteriskLeft n t q
+  pub basis-rows : (selected : List ℕ) → BasisRows n t selected ↔ BasisRowsLeft n t selected
+
+-- ---- documents 000 and 01 on the shortest lists
+
+-- basis rows belong to the shortest lists
 pub record Basis (n : ℕ) (t : List ℕ) : Type 0 where
   -- "If any column has only one entry, the row in which this entry occurs must be a basis row.": each essential prime is among them
   pub sole-entries : (selected : List ℕ) → BasisRows n t selected → (q : ℕ) → SingleAsterisk n t q → T (among q selected)

@@ -8,7 +8,7 @@ use Prim.Native.Nat.{ℕ, _-_, _^_, _/_, _%_, _<_, _≤_}
 use lib.Dec.{T, eqb}
 use lib.ListN.{length}
 use Rattle.numbers.specs.Below.{flag, those}
-use Rattle.cube.specs.Words.{onSet, offSet, Row, Cover, rowMatches, formed, ones, rowLiterals, coverMatches, implements, fits, tested, digit, cubeMatches, cubeLiterals, valueOf, careOf, rowOf, numberOf, implicant, prime, essential, within}
+use Rattle.cube.specs.Words.{onSet, offSet, Row, Cover, rowMatches, formed, ones, rowLiterals, coverMatches, implements, fits, tested, digit, cubeMatches, cubeLiterals, valueOf, careOf, rowOf, numberOf, implicant, prime, essential, serves, within}
 
 -- "Variable x1 has the highest weight, 2^(n−1); xn has weight 1 (001).": the bit of variable xk
 abbrev pub bitOfVariable : ℕ → ℕ → ℕ → ℕ
@@ -62,3 +62,4 @@ pub record Meanings (n : ℕ) (t : List ℕ) : Type 0 where
   pub essential-is : (q : ℕ)
       → T (essential n t q)
       ↔ (T (prime n t q) × ((c : ℕ) × (c < 2 ^ n) × T (onSet t c) × T (cubeMatches n q c) × ((p : ℕ) → p < 3 ^ n → T (prime n t p) → T (cubeMatches n p c) → p ≡ q)))
+  pub serves-is : (q : ℕ) → T (serves n t q) ↔ ((c : ℕ) × (c < 2 ^ n) × T (onSet t c) × T (cubeMatches n q c))

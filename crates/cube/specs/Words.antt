@@ -175,9 +175,21 @@ alone n t q c = cubeMatches n q c && not (some (3 ^ n) (λ p. (prime n t p && cu
 unfoldable pub essential : ℕ → List ℕ → ℕ → Bool
 essential n t q = prime n t q && some (2 ^ n) (λ c. onSet t c && alone n t q c)
 
--- "all primes, ascending by cube number"
+-- "match a wanted code" (document 02): the cube serves
+unfoldable pub serves : ℕ → List ℕ → ℕ → Bool
+serves n t q = some (2 ^ n) (λ c. onSet t c && cubeMatches n q c)
+
+-- "all primes, ascending by cube number": all of document 01's primes, whether they serve or not
 unfoldable pub primesOf : ℕ → List ℕ → List ℕ
 primesOf n t = those (3 ^ n) (prime n t)
+
+-- "only primes that match a wanted code" (document 02)
+abbrev pub servingPrime : ℕ → List ℕ → ℕ → Bool
+servingPrime n t q = prime n t q && serves n t q
+
+-- "Primes and Chart give only primes that match a wanted code", ascending by cube number: what the two calls report
+unfoldable pub servingPrimesOf : ℕ → List ℕ → List ℕ
+servingPrimesOf n t = those (3 ^ n) (servingPrime n t)
 
 -- "the essential primes, as Primes does"
 unfoldable pub essentialsOf : ℕ → List ℕ → List ℕ

@@ -11,16 +11,16 @@ ghost use mathlib.Core.Bool.{cond};
 ghost use Prim.Native.Nat.{_<_, _≤_, _^_};
 ghost use lib.ListN.{length};
 ghost use Rattle.numbers.specs.Lent.{Puts};
-ghost use Rattle.cube.specs.Words.{prime, essential, essentialsOf};
+ghost use Rattle.cube.specs.Words.{servingPrime, essential, essentialsOf};
 ghost use Rattle.cube.specs.Calls.{widest, Listed};
 ghost use Rattle.primes.specs.Primes.{primesRefuses};
-ghost use Rattle.primes.specs.Steps.{Flagged, Marks, isMarked};
+ghost use Rattle.primes.specs.Steps.{Markable, Marks, isMarked};
 ghost use Rattle.chart_arrays.specs.Columns.{columnsOf};
 ghost use Rattle.essentials.specs.Steps.{PrimeWords, SoleColumns, HolderMarks};
 
-// The word of cube q: its columns if it is marked as a prime, else none.
+// The word of cube q: its columns if it is marked, else none.
 fn prime_word(n: usize, table: &[u8], marks: &[u8], q: usize) -> columns::Set
-    requires { ⌜ Flagged n (now table) (now marks) × (q < 3 ^ n) ⌝ }
+    requires { ⌜ Markable n (now table) (now marks) × (q < 3 ^ n) ⌝ }
     ensures { λ r. ⌜ r ≡ cond (isMarked (now (marks .entry)) q) (columnsOf n (now (table .entry)) q) 0 ⌝ }
 {
     if marks[q] == 0 {
@@ -29,9 +29,9 @@ fn prime_word(n: usize, table: &[u8], marks: &[u8], q: usize) -> columns::Set
     chart_arrays::cube_columns(n, table, q)
 }
 
-// The words of all cubes.
+// The words of all cubes: the columns of a prime, none for another cube. A prime that does not serve has no column.
 fn prime_words(n: usize, table: &[u8], marks: &[u8], words: &mut [u64])
-    requires { ⌜ Flagged n (now table) (now marks) × Marks (prime n (now table)) (now marks) (3 ^ n) × (3 ^ n ≤ length (now words)) ⌝ }
+    requires { ⌜ Markable n (now table) (now marks) × Marks (servingPrime n (now table)) (now marks) (3 ^ n) × (3 ^ n ≤ length (now words)) ⌝ }
     ensures { λ _. ⌜ PrimeWords n (now (table .entry)) (now (words .exit)) (3 ^ n) ⌝ }
 {
     let cubes = spelling::cubes(n);
@@ -73,10 +73,10 @@ fn mark_holders(words: &[u64], m: usize, sole: columns::Set, marks: &mut [u8])
 
 // Marks the essential primes of a table of n variables: 1 for an essential one, 0 for another cube.
 fn mark_essentials(n: usize, table: &[u8], marks: &mut [u8])
-    requires { ⌜ Flagged n (now table) (now marks) ⌝ }
+    requires { ⌜ Markable n (now table) (now marks) ⌝ }
     ensures { λ _. ⌜ Marks (essential n (now (table .entry))) (now (marks .exit)) (3 ^ n) ⌝ }
 {
-    primes::mark_primes(n, table, marks);
+    primes::mark_serving_primes(n, table, marks);
     let mut words = [0u64; MOST_CUBES];
     prime_words(n, table, marks, &mut words);
     let cubes = spelling::cubes(n);

@@ -6,7 +6,7 @@ use Prim.Native.Nat.{ℕ, zero, suc, _^_, _<_, _≤_}
 use native.Mathlib.Omega.{arith}
 use lib.IntN.{ℤ}
 use lib.ListN.{length, length-map}
-use Rattle.cube.specs.Words.{codesOf, primesOf, essentialsOf}
+use Rattle.cube.specs.Words.{codesOf, servingPrimesOf, essentialsOf}
 use Rattle.cube.specs.Calls.{answered, countAnswer, Listed}
 use Rattle.cube.specs.declared.Counted.{Counted}
 use Rattle.cube.specs.declared.Counted.the-variants.{Count, Refused}
@@ -32,8 +32,8 @@ module _ (n : ℕ) (t : List ℕ) (places : ℕ) (e : primesRefuses n t places �
   few-cubes : (m : ℕ) → m ≤ 3 ^ n → m < 2 ^ 31
   few-cubes m l = omega (arith, cubes-most n (width-first n _ e))
 
-  pub few-primes : length (primesOf n t) < 2 ^ 31
-  few-primes = few-cubes (length (primesOf n t)) (primes-most n t)
+  pub few-primes : length (servingPrimesOf n t) < 2 ^ 31
+  few-primes = few-cubes (length (servingPrimesOf n t)) (primes-most n t)
 
   pub few-chart : length (chartOf n t) < 2 ^ 31
   few-chart = few-cubes (length (chartOf n t)) (rw length-map (primes-most n t))

@@ -11,7 +11,7 @@ use plan::Planned;
 use spelling::Spelled;
 ghost use mathlib.Core.Path.{_≡_};
 ghost use lib.ListN.{length};
-ghost use Rattle.cube.specs.Words.{codesOf, primesOf, essentialsOf};
+ghost use Rattle.cube.specs.Words.{codesOf, servingPrimesOf, essentialsOf};
 ghost use Rattle.cube.specs.Calls.{countAnswer};
 ghost use Rattle.cells.specs.Cells.{cellsRefuses};
 ghost use Rattle.primes.specs.Primes.{primesRefuses};
@@ -100,10 +100,10 @@ pub extern "C" fn rows_cells(n: usize, cube: usize, codes: &mut [u8]) -> i32
     count_number(cells::cells(n, cube, codes))
 }
 
-// Primes for C: how many primes there are, or minus the number of the refusal; the primes go into the first places.
+// Primes for C: how many primes match a wanted code, or minus the number of the refusal; these primes go into the first places.
 #[no_mangle]
 pub extern "C" fn rows_primes(n: usize, table: &[u8], cubes: &mut [u16]) -> i32
-    ensures { λ r. ⌜ ListedForC (primesRefuses n (now (table .entry)) (length (now (cubes .entry)))) (primesOf n (now (table .entry)))
+    ensures { λ r. ⌜ ListedForC (primesRefuses n (now (table .entry)) (length (now (cubes .entry)))) (servingPrimesOf n (now (table .entry)))
         (now (cubes .entry)) (now (cubes .exit)) r ⌝ }
 {
     count_number(primes::primes(n, table, cubes))

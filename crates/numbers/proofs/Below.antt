@@ -63,6 +63,18 @@ some-same zero f g e = refl
 some-same (suc m) f g e = ap₂ _||_ (e m (lt-suc-self m)) (some-same m f g (λ k l. e k (omega arith)))
 
 -- the number 0 first, and the others shifted by one
+-- none passes both tests exactly where each fails one of them
+pub every-fails : (m : ℕ) (f g : ℕ → Bool) → every m (λ c. not (f c) || not (g c)) ≡ not (some m (λ c. g c && f c))
+unfolding every some
+every-fails zero f g = refl
+every-fails (suc m) f g = ap (λ (b : Bool). (not (f m) || not (g m)) && b) (every-fails m f g) ∙ go (f m) (g m) (some m (λ c. g c && f c))
+  where
+    go : (a b x : Bool) → ((not a || not b) && not x) ≡ not ((b && a) || x)
+    go true true x = refl
+    go true false x = refl
+    go false true x = refl
+    go false false x = refl
+
 pub some-front : (m : ℕ) (f : ℕ → Bool) → some (suc m) f ≡ (f 0 || some m (λ k. f (suc k)))
 unfolding some
 some-front zero f = refl

@@ -39,6 +39,10 @@ pub not-and : (a b : Bool) → not (a && b) ≡ (not a || not b)
 not-and true b = refl
 not-and false b = refl
 
+pub not-or : (a b : Bool) → not (a || b) ≡ (not a && not b)
+not-or true b = refl
+not-or false b = refl
+
 -- `not a || b` is a → b
 pub imp-e : (a b : Bool) → T (not a || b) → T a → T b
 imp-e true b h x = h

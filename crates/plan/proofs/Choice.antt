@@ -11,7 +11,7 @@ use lib.ListN.{length, length-map, take, getD}
 use lib.Seq.{getD-take}
 use borrow.Table.Elements.{length-take-le}
 use Rattle.numbers.specs.Below.{those}
-use Rattle.cube.specs.Words.{onSet, Cover, rowMatches, coverLiterals, rowOf, primesOf}
+use Rattle.cube.specs.Words.{onSet, Cover, rowMatches, coverLiterals, rowOf, servingPrimesOf}
 use Rattle.cube.specs.Calls.{widest}
 use Rattle.cube.specs.Minimum.{Minimum}
 use Rattle.numbers.proofs.Bools.{and-l, and-r, and-i, is-true, holds}
@@ -96,7 +96,7 @@ module _ (n : ℕ) (t : List ℕ) (width : n ≤ widest) (cells : length t ≡ 2
   unfolding words
   words-long = length-take-le (a .rows) (a .words) (chart .places .1)
 
-  is-row : (i : ℕ) → i < length (primesOf n t) → i < a .rows
+  is-row : (i : ℕ) → i < length (servingPrimesOf n t) → i < a .rows
   is-row i l = subst⁻¹ (λ (k : ℕ). i < k) (chart .rows) l
 
   of-chart : ChartOf n t words (light .weights)
@@ -116,7 +116,7 @@ module _ (n : ℕ) (t : List ℕ) (width : n ≤ widest) (cells : length t ≡ 2
   L : List ℕ
   L = those (a .rows) (member (found .picked))
 
-  minimum-selection : LeastCover (covers words) (weightOf (light .weights)) (λ i. i < length (primesOf n t)) (In u) L (found .weight)
+  minimum-selection : LeastCover (covers words) (weightOf (light .weights)) (λ i. i < length (servingPrimesOf n t)) (In u) L (found .weight)
   unfolding words L
   minimum-selection =
       subst (λ (k : ℕ). LeastCover (covers words) (weightOf (light .weights)) (λ i. i < k) (In u) L (found .weight)) (chart .rows)
@@ -160,7 +160,7 @@ module _ (n : ℕ) (t : List ℕ) (width : n ≤ widest) (cells : length t ≡ 2
     xs-are : xs ≡ map (cubeAt n t words (light .weights) of-chart) L
     unfolding xs L
     xs-are =
-        map-same (λ i. i < length (primesOf n t)) (λ (i : ℕ). getD (a .cubes) i 0) (cubeAt n t words (light .weights) of-chart) (λ i l. chart .cubes i (is-row i l))
+        map-same (λ i. i < length (servingPrimesOf n t)) (λ (i : ℕ). getD (a .cubes) i 0) (cubeAt n t words (light .weights) of-chart) (λ i l. chart .cubes i (is-row i l))
         (those (a .rows) (member (found .picked))) (minimum-selection .within)
 
     front : take count cubes ≡ xs

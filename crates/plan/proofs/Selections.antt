@@ -1,22 +1,23 @@
--- From the minimum cover of the chart to a shortest list. Each row of a rival lies within a prime that tests no more bits, so the rival gives a selection
--- of chart rows that covers every wanted code and weighs no more; the minimum selection weighs least, and the weight orders lists. Assumes nothing.
+-- From the minimum cover of the chart to a shortest list. Each row of a rival lies within a prime that tests no more bits, and one that does not serve can be
+-- left out, so the rival gives a selection of chart rows that covers every wanted code and weighs no more; the minimum selection weighs least, and the
+-- weight orders lists. Assumes nothing.
 use mathlib.Core.Path.{_≡_, refl, sym, ap, _∙_, subst, subst⁻¹}
 use mathlib.Core.Logic.{inl, inr, ⊎-elim}
-use mathlib.Core.Bool.{_&&_}
+use mathlib.Core.Bool.{Bool, true, false, _&&_}
 use mathlib.Core.List.{List, [], _∷_, map}
 use Prim.Native.Nat.{ℕ, zero, suc, _+_, _-_, _*_, _^_, _<_, _≤_}
 use native.Mathlib.Nat.{not-suc-le-zero, le-of-suc-le-suc}
 use native.Mathlib.Omega.{arith}
 use lib.Dec.{T, ltb, leb, lt→ltb, le→leb, leb→le}
 use lib.ListN.{length, getD}
-use Rattle.cube.specs.Words.{onSet, offSet, Row, Cover, rowMatches, formed, eachRow, allFormed, coverMatches, coverLiterals, implements, cubeMatches, cubeLiterals, rowOf, numberOf, implicant, prime, primesOf}
+use Rattle.cube.specs.Words.{onSet, offSet, Row, Cover, rowMatches, formed, eachRow, allFormed, coverMatches, coverLiterals, implements, cubeMatches, cubeLiterals, rowOf, numberOf, implicant, prime, serves, servingPrime, servingPrimesOf}
 use Rattle.cube.specs.Minimum as lists
 use Rattle.numbers.proofs.Bools.{and-l, and-r, and-i, or-e, or-l, or-r, is-true, holds}
 use Rattle.numbers.proofs.Below.{those-at, those-ascend, those-place}
 use Rattle.cube.proofs.Digits.{contained-matches, contained-literals}
-use Rattle.cube.proofs.Implicants.{implicant-at, prime-implicant, prime-above}
+use Rattle.cube.proofs.Implicants.{implicant-at, prime-implicant, PrimeAbove, prime-above}
 use Rattle.cube.proofs.Rows.{cube-lt, row-is-cube, row-literals, row-formed, row-of-matches, row-of-literals}
-use Rattle.cube.proofs.Theorems.{implements-on, implements-by}
+use Rattle.cube.proofs.Theorems.{implements-on, implements-by, serves-by}
 use Rattle.cube.proofs.Independent.{sound, rows-sound}
 use Rattle.cube.proofs.Covers.{literals-most}
 use Rattle.cube.proofs.Pairs.{pair-by-pair}
@@ -31,22 +32,22 @@ use Rattle.plan.specs.Plan.{ascendsFrom, ascending}
 use Rattle.plan.specs.Steps.{rowWeight, weightOfCube, rowsOfCubes}
 use Rattle.plan.proofs.Weights.{rows-most, weight-orders}
 
--- the chart on two lists: the word and the weight of each prime, in the primes' order
+-- the chart on two lists: the word and the weight of each prime that serves, in the primes' order
 pub record ChartOf (n : ℕ) (t words weights : List ℕ) : Type 0 where
-  pub word : (i : ℕ) → i < length (primesOf n t) → getD words i 0 ≡ columnsOf n t (getD (primesOf n t) i 0)
-  pub weight : (i : ℕ) → i < length (primesOf n t) → getD weights i 0 ≡ weightOfCube n (getD (primesOf n t) i 0)
+  pub word : (i : ℕ) → i < length (servingPrimesOf n t) → getD words i 0 ≡ columnsOf n t (getD (servingPrimesOf n t) i 0)
+  pub weight : (i : ℕ) → i < length (servingPrimesOf n t) → getD weights i 0 ≡ weightOfCube n (getD (servingPrimesOf n t) i 0)
 
 module _ (n : ℕ) (t words weights : List ℕ) (chart : ChartOf n t words weights) where
   -- a chart row, and its cube
   abbrev pub ChartRow : ℕ → Type 0
-  ChartRow i = i < length (primesOf n t)
+  ChartRow i = i < length (servingPrimesOf n t)
 
   abbrev pub cubeAt : ℕ → ℕ
-  cubeAt i = getD (primesOf n t) i 0
+  cubeAt i = getD (servingPrimesOf n t) i 0
 
   cube-at : (i : ℕ) → ChartRow i → (cubeAt i < 3 ^ n) × T (prime n t (cubeAt i))
-  unfolding primesOf
-  cube-at i l = those-at (prime n t) (3 ^ n) i l
+  unfolding servingPrimesOf
+  cube-at i l = let p = those-at (servingPrime n t) (3 ^ n) i l in (p .0, and-l (prime n t (cubeAt i)) (serves n t (cubeAt i)) (p .1))
 
   -- a chart row covers the wanted codes that its cube matches
   covers-is : (i c : ℕ) → ChartRow i → has (getD words i 0) c ≡ (ltb c (2 ^ n) && column n t (cubeAt i) c)
@@ -104,41 +105,58 @@ module _ (n : ℕ) (t words weights : List ℕ) (chart : ChartOf n t words weigh
     light : weight (weightOf weights) rows ≤ rowWeight * length rs + coverLiterals n rs
     hits : (c : ℕ) → c < 2 ^ n → T (onSet t c) → T (coverMatches rs c) → Hits (covers words) rows c
 
-  -- a chart row for a formed row whose cube is an implicant
-  record Serves (r : Row) : Type 0 where
-    row : ℕ
-    is-row : ChartRow row
-    light : weightOf weights row ≤ rowWeight + cubeLiterals n (numberOf n r)
-    hits : (c : ℕ) → c < 2 ^ n → T (onSet t c) → T (rowMatches r c) → covers words row c
+  -- the row's cube is an implicant, so it lies within a prime that tests no more bits
+  module _ (r : Row) (s : T (sound n t r)) where
+    above : PrimeAbove n t (numberOf n r)
+    above = prime-above n t (numberOf n r) (cube-lt n (r .value) (r .care)) (and-r (formed n r) (implicant n t (numberOf n r)) s)
 
-  serves : (r : Row) → T (sound n t r) → Serves r
-  unfolding primesOf
-  serves r s =
-      let q : ℕ = numberOf n r in
-      let f = and-l (formed n r) (implicant n t q) s in
-      let p = prime-above n t q (cube-lt n (r .value) (r .care)) (and-r (formed n r) (implicant n t q) s) in
-      let i = those-place (prime n t) (3 ^ n) (p .cube) (p .below) (p .is-prime) in
-      record {
-        row = i .0;
-        is-row = i .1;
-        light = omega (arith, chart .weight (i .0) (i .1), ap (cubeLiterals n) (i .2), contained-literals n q (p .cube) (p .contains));
-        hits = λ c l a m.
-            covers-by (i .0) c (i .1) l a
-            (subst⁻¹ (λ (x : ℕ). T (cubeMatches n x c)) (i .2) (contained-matches n q (p .cube) c (p .contains) (subst T (row-is-cube n r f c) m)));
-      }
+    above-matches : (c : ℕ) → T (rowMatches r c) → T (cubeMatches n (above .cube) c)
+    above-matches c m =
+        contained-matches n (numberOf n r) (above .cube) c (above .contains)
+        (subst T (row-is-cube n r (and-l (formed n r) (implicant n t (numberOf n r)) s) c) m)
+
+    above-light : weightOfCube n (above .cube) ≤ rowWeight + coverLiterals n (r ∷ [])
+    unfolding coverLiterals
+    above-light = omega (arith, contained-literals n (numberOf n r) (above .cube) (above .contains), row-literals n (r .value) (r .care))
+
+  -- a rival with one row more: the prime is selected where it serves, and else no wanted code is lost without it
+  module _ (r : Row) (s : T (sound n t r)) (rs : Cover) (more : Selected rs) where
+    with-prime : T (serves n t (above r s .cube)) → Selected (r ∷ rs)
+    unfolding servingPrimesOf coverMatches coverLiterals
+    with-prime h =
+        let p = above r s in
+        let i = those-place (servingPrime n t) (3 ^ n) (p .cube) (p .below) (and-i (prime n t (p .cube)) (serves n t (p .cube)) (p .is-prime) h) in
+        record {
+          rows = i .0 ∷ more .rows;
+          within = (i .1, more .within);
+          light = omega (arith, chart .weight (i .0) (i .1), ap (cubeLiterals n) (i .2), above-light r s, more .light);
+          hits = λ c l a m.
+              ⊎-elim (λ x. inl (covers-by (i .0) c (i .1) l a (subst⁻¹ (λ (q : ℕ). T (cubeMatches n q c)) (i .2) (above-matches r s c x))))
+              (λ x. inr (more .hits c l a x)) (or-e (rowMatches r c) (coverMatches rs c) m);
+        }
+
+    without-prime : (T (serves n t (above r s .cube)) → ⊥) → Selected (r ∷ rs)
+    unfolding coverMatches coverLiterals
+    without-prime h = record {
+      rows = more .rows;
+      within = more .within;
+      light = omega (arith, more .light);
+      hits = λ c l a m.
+          ⊎-elim (λ x. absurd (h (serves-by n t (above r s .cube) c l a (above-matches r s c x)))) (more .hits c l a) (or-e (rowMatches r c) (coverMatches rs c) m);
+    }
+
+    one-more : Selected (r ∷ rs)
+    one-more = go (serves n t (above r s .cube)) refl
+      where
+        go : (b : Bool) → serves n t (above r s .cube) ≡ b → Selected (r ∷ rs)
+        go true e = with-prime (holds (serves n t (above r s .cube)) e)
+        go false e = without-prime (λ x. subst T e x)
 
   selected : (rs : Cover) → T (eachRow (sound n t) rs) → Selected rs
   unfolding eachRow coverMatches coverLiterals
   selected [] s = record { rows = []; within = tt; light = omega arith; hits = λ c l a m. absurd m }
   selected (r ∷ rs) s =
-      let one = serves r (and-l (sound n t r) (eachRow (sound n t) rs) s) in
-      let more = selected rs (and-r (sound n t r) (eachRow (sound n t) rs) s) in
-      record {
-        rows = one .row ∷ more .rows;
-        within = (one .is-row, more .within);
-        light = omega (arith, one .light, more .light, row-literals n (r .value) (r .care));
-        hits = λ c l a m. ⊎-elim (λ x. inl (one .hits c l a x)) (λ x. inr (more .hits c l a x)) (or-e (rowMatches r c) (coverMatches rs c) m);
-      }
+      one-more r (and-l (sound n t r) (eachRow (sound n t) rs) s) rs (selected rs (and-r (sound n t r) (eachRow (sound n t) rs) s))
 
   -- each wanted code has a row
   pub coverable : (c : ℕ) → c < 2 ^ n → T (onSet t c) → (i : ℕ) × ChartRow i × covers words i c
@@ -188,11 +206,11 @@ module _ (n : ℕ) (t words weights : List ℕ) (chart : ChartOf n t words weigh
   -- ---- ascending rows have ascending cubes
 
   cubes-ascend : (b i : ℕ) (L : List ℕ) → T (ascendsFrom i L) → Within ChartRow L → ((j : ℕ) → i ≤ j → ChartRow j → b ≤ cubeAt j) → T (ascendsFrom b (map cubeAt L))
-  unfolding ascendsFrom primesOf
+  unfolding ascendsFrom servingPrimesOf
   cubes-ascend b i [] a w f = tt
   cubes-ascend b i (j ∷ L) a w f =
       and-i (leb b (cubeAt j)) (ascendsFrom (suc (cubeAt j)) (map cubeAt L)) (le→leb b (cubeAt j) (f j (leb→le i j (and-l (leb i j) (ascendsFrom (suc j) L) a)) (w .0)))
-      (cubes-ascend (suc (cubeAt j)) (suc j) L (and-r (leb i j) (ascendsFrom (suc j) L) a) (w .1) (λ h l x. those-ascend (prime n t) (3 ^ n) j h l x))
+      (cubes-ascend (suc (cubeAt j)) (suc j) L (and-r (leb i j) (ascendsFrom (suc j) L) a) (w .1) (λ h l x. those-ascend (servingPrime n t) (3 ^ n) j h l x))
 
   pub ascending-list : (L : List ℕ) → T (ascending L) → Within ChartRow L → T (ascending (map cubeAt L))
   ascending-list L a w = cubes-ascend 0 0 L a w (λ j l x. omega arith)

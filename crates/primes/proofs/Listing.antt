@@ -16,7 +16,7 @@ use Rattle.numbers.proofs.Lent.{puts-same}
 use Rattle.cube.proofs.Calls.{Accepted, accepted, last-before, last-holds, last-passes, last-none, listed-refused, listed-done}
 use Rattle.primes.specs.Primes.{primesRefuses}
 use Rattle.primes.specs.Steps.{Marks, isMarked}
-use Rattle.primes.proofs.Flags.{marked-is}
+use Rattle.primes.proofs.Marking.{marked-is}
 
 module _ (n : ℕ) (t : List ℕ) (places : ℕ) where
   pub refuses-table : (k : ℕ) → k ≡ firstOf (tableConditions n t) → (k ≡ 0 → ⊥) → k ≡ primesRefuses n t places

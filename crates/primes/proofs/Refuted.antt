@@ -1,12 +1,12 @@
--- Wrong answers of Primes that its promise shuts out, each on a named case, where no edit of the code keeps its shape; and wrong refusals, on named
--- inputs. Assumes nothing.
+-- Wrong answers of Primes that its promise shuts out, each on a named case: those for which no edit of the code keeps its shape, and document 02's case d with two
+-- primes; and wrong refusals, on named inputs. Assumes nothing.
 use mathlib.Core.Path.{_≡_, ap}
 use mathlib.Core.List.{List, [], _∷_}
 use Prim.Native.Nat.{ℕ}
 use native.Mathlib.Omega.{arith}
 use lib.ListN.{length, getD}
 use Rattle.numbers.specs.Below.{every, some, those}
-use Rattle.cube.specs.Words.{cubeMatches, cubeLiterals, within, implicant, prime, primesOf}
+use Rattle.cube.specs.Words.{cubeMatches, cubeLiterals, within, implicant, prime, serves, servingPrimesOf}
 use Rattle.cube.specs.Calls.{badCell, Listed}
 use Rattle.cube.specs.declared.Counted.{Counted}
 use Rattle.cube.specs.declared.Counted.the-variants.{Refused}
@@ -18,16 +18,25 @@ abbrev pub case-d : List ℕ
 case-d = 1 ∷ 0 ∷ 0 ∷ 2 ∷ []
 
 -- seven places that hold x, and the rest
-abbrev pub seven : ℕ → List ℕ → List ℕ
+abbrev seven : ℕ → List ℕ → List ℕ
 seven x rest = x ∷ x ∷ x ∷ x ∷ x ∷ x ∷ x ∷ rest
 
--- the two primes of case d, descending
-pub descending : (r : Counted) → Listed (primesRefuses 2 case-d 9) (primesOf 2 case-d) (seven 7 (7 ∷ 7 ∷ [])) (4 ∷ 0 ∷ seven 7 []) r → ⊥
-unfolding every some those cubeMatches cubeLiterals within implicant prime primesOf badCell
+-- wanted 0 and 3
+abbrev both-wanted : List ℕ
+both-wanted = 1 ∷ 0 ∷ 0 ∷ 1 ∷ []
+
+-- its two primes, descending
+pub descending : (r : Counted) → Listed (primesRefuses 2 both-wanted 9) (servingPrimesOf 2 both-wanted) (seven 7 (7 ∷ 7 ∷ [])) (4 ∷ 0 ∷ seven 7 []) r → ⊥
+unfolding every some those cubeMatches cubeLiterals within implicant prime serves servingPrimesOf badCell
 descending r p = let z : _≡_ {A = ℕ} 4 0 = ap (λ (l : List ℕ). getD l 0 0) (p .places) in omega arith
 
+-- two primes for case d: 11, which matches the free code alone, beside 00
+pub free-code-alone : (r : Counted) → Listed (primesRefuses 2 case-d 9) (servingPrimesOf 2 case-d) (seven 7 (7 ∷ 7 ∷ [])) (0 ∷ 4 ∷ seven 7 []) r → ⊥
+unfolding every some those cubeMatches cubeLiterals within implicant prime serves servingPrimesOf badCell
+free-code-alone r p = let z : _≡_ {A = ℕ} 4 7 = ap (λ (l : List ℕ). getD l 1 0) (p .places) in omega arith
+
 -- a place written though the width is refused
-pub written-on-refusal : (r : Counted) → Listed (primesRefuses 0 case-d 1) (primesOf 0 case-d) (7 ∷ []) (0 ∷ []) r → ⊥
+pub written-on-refusal : (r : Counted) → Listed (primesRefuses 0 case-d 1) (servingPrimesOf 0 case-d) (7 ∷ []) (0 ∷ []) r → ⊥
 written-on-refusal r p = let z : _≡_ {A = ℕ} 0 7 = ap (λ (l : List ℕ). getD l 0 0) (p .places) in omega arith
 
 -- ---- wrong refusals: the earlier condition wins. The three calls that list cubes, Primes, Essentials and Chart, refuse the same way, so `list` is any list.

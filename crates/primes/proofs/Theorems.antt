@@ -5,9 +5,9 @@ use mathlib.Core.List.{List}
 use Prim.Native.Nat.{ℕ}
 use lib.ListN.{length}
 use Rattle.numbers.specs.Below.{EachOnce}
-use Rattle.cube.specs.Words.{primesOf}
+use Rattle.cube.specs.Words.{servingPrimesOf}
 use Rattle.cube.specs.Calls.{Listed}
-use Rattle.cube.specs.McCluskey.{PrimeImplicant}
+use Rattle.cube.specs.McCluskey.{CrossedRow}
 use Rattle.cube.specs.declared.Counted.{Counted}
 use Rattle.cube.specs.declared.Counted.the-variants.{Count}
 use Rattle.cube.proofs.Calls.{listed-front, listed-behind, listed-counts}
@@ -28,4 +28,4 @@ module _ (P : ℕ → Type 0) (refusal : ℕ) (list old new : List ℕ) (each : 
   reports = record { counted = report; accepted = reported }
 
 pub reports-primes : (n : ℕ) (t old new : List ℕ) → ReportsPrimes n t old new
-reports-primes n t old new = reports (PrimeImplicant n t) (primesRefuses n t (length old)) (primesOf n t) old new (agreement n t .rows)
+reports-primes n t old new = reports (CrossedRow n t) (primesRefuses n t (length old)) (servingPrimesOf n t) old new (agreement n t .crossed)

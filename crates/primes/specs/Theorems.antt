@@ -5,9 +5,9 @@ use mathlib.Core.List.{List}
 use Prim.Native.Nat.{ℕ}
 use lib.ListN.{length, take, drop}
 use Rattle.numbers.specs.Below.{EachOnce}
-use Rattle.cube.specs.Words.{primesOf}
+use Rattle.cube.specs.Words.{servingPrimesOf}
 use Rattle.cube.specs.Calls.{Listed}
-use Rattle.cube.specs.McCluskey.{PrimeImplicant}
+use Rattle.cube.specs.McCluskey.{CrossedRow}
 use Rattle.cube.specs.declared.Counted.{Counted}
 use Rattle.cube.specs.declared.Counted.the-variants.{Count}
 use Rattle.primes.specs.Primes.{primesRefuses}
@@ -32,6 +32,6 @@ pub record Reports (P : ℕ → Type 0) (refusal : ℕ) (list old new : List ℕ
   -- where nothing refuses, there is a count
   pub accepted : (r : Counted) → refusal ≡ 0 → Listed refusal list old new r → Reported P old new r
 
--- "The product terms reported are exactly the prime implicants of McCluskey's 1956 paper"
+-- "The product terms reported are exactly the prime implicants of McCluskey's 1956 paper", which document 02 compares "after that removal"
 abbrev pub ReportsPrimes : ℕ → List ℕ → List ℕ → List ℕ → Type 0
-ReportsPrimes n t old new = Reports (PrimeImplicant n t) (primesRefuses n t (length old)) (primesOf n t) old new
+ReportsPrimes n t old new = Reports (CrossedRow n t) (primesRefuses n t (length old)) (servingPrimesOf n t) old new

@@ -1,4 +1,4 @@
--- `chart::prepare` meets its contract: where nothing is refused, the chart has a row for each prime, of which there are at most 3^n. Assumes nothing.
+-- `chart::prepare` meets its contract: where nothing is refused, the chart has a row for each prime that serves, of which there are at most 3^n. Assumes nothing.
 use mathlib.Core.Path.{_≡_, refl, sym, _∙_}
 use Prim.Native.Nat.{ℕ, zero, suc}
 use mathlib.Core.List.{List, []}

@@ -12,8 +12,8 @@ use Rattle.essentials.proofs.SoleEntries.{holder-is-essential}
 use Rattle.essentials.proofs.mark_essentials.Statement.{statement}
 use Rattle.essentials.proofs.mark_essentials.Tie as tie
 
-mark-primes-requires : tie.Need-mark-primes-requires
-mark-primes-requires c κs = search needs
+mark-serving-primes-requires : tie.Need-mark-serving-primes-requires
+mark-serving-primes-requires c κs = search needs
 
 slice-aggregate-prime-words : tie.Need-slice-aggregate-prime-words
 slice-aggregate-prime-words c = search needs
@@ -24,9 +24,9 @@ prime-words-requires c κs =
       record {
         width = s .pre .width;
         cells = s .pre .cells;
-        enough = subst⁻¹ (λ (i : ℕ). 3 ^ s .args .n ≤ i) (c .before .before .before .before .mark-primes .kept .1 .1 .0) (s .pre .enough);
+        enough = subst⁻¹ (λ (i : ℕ). 3 ^ s .args .n ≤ i) (c .before .before .before .before .mark-serving-primes .kept .1 .1 .0) (s .pre .enough);
       },
-      c .before .before .before .before .mark-primes .ensures .marks,
+      c .before .before .before .before .mark-serving-primes .ensures .marks,
       cubes-most _ (s .pre .width),
     )
 
@@ -50,7 +50,7 @@ slice-aggregate-mark-holders c = search needs
 
 mark-holders-requires : tie.Need-mark-holders-requires
 mark-holders-requires c κs =
-    (words-long (c .before .before .before .before), omega (arith, c .before .before .before .before .cubes .ensures, c .before .before .before .before .before .before .before .before .before .before .before .mark-primes .kept .1 .1 .0, c .before .before .before .before .before .before .before .before .before .before .before .before .before .before .before .pre .enough))
+    (words-long (c .before .before .before .before), omega (arith, c .before .before .before .before .cubes .ensures, c .before .before .before .before .before .before .before .before .before .before .before .mark-serving-primes .kept .1 .1 .0, c .before .before .before .before .before .before .before .before .before .before .before .before .before .before .before .pre .enough))
 
 same-length : tie.Need-same-length
 same-length c = search needs
@@ -69,5 +69,5 @@ returns c q l =
 pub mark-essentials-spec : {M : Type 1} → statement M
 mark-essentials-spec =
     tie.close
-    (tie.spec mark-primes-requires slice-aggregate-prime-words prime-words-requires cubes-requires slice-aggregate-sole-columns sole-columns-requires
+    (tie.spec mark-serving-primes-requires slice-aggregate-prime-words prime-words-requires cubes-requires slice-aggregate-sole-columns sole-columns-requires
     slice-aggregate-mark-holders mark-holders-requires same-length returns)

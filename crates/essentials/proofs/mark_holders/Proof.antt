@@ -4,7 +4,7 @@ use Prim.Native.Nat.{_-_, _≤_}
 use native.Mathlib.Omega.{arith}
 use lib.ListN.{length, length-set}
 use borrow.Author.Needs.{needs}
-use Rattle.primes.proofs.Flags.{byte-is}
+use Rattle.primes.proofs.Marking.{byte-is}
 use Rattle.essentials.specs.Steps.{HolderMarks}
 use Rattle.essentials.proofs.SoleEntries.{holders-more}
 use Rattle.essentials.proofs.mark_holders.Statement.{statement}

@@ -1,24 +1,32 @@
--- `essentials::prime_words` meets its contract: the words before q are right. Assumes nothing.
+-- `essentials::prime_words` meets its contract: the words before q are right, since a prime that does not serve has no column. Assumes nothing.
 use mathlib.Core.Path.{_≡_, refl, ap, _∙_, subst}
 use mathlib.Core.Bool.{Bool, cond}
+use mathlib.Core.List.{List}
 use Prim.Native.Nat.{ℕ, _-_, _^_, _<_, _≤_}
 use native.Mathlib.Omega.{arith}
 use lib.ListN.{length, length-set}
 use borrow.Author.Needs.{needs}
-use Rattle.cube.specs.Words.{prime}
+use Rattle.cube.specs.Words.{prime, servingPrime}
 use Rattle.cube.specs.Calls.{widest}
 use Rattle.cube.proofs.Calls.{cubes-most}
 use Rattle.numbers.proofs.Lent.{fill-more}
-use Rattle.primes.specs.Steps.{Flagged, Marks}
-use Rattle.primes.proofs.Flags.{marked-is}
+use Rattle.primes.specs.Steps.{Markable, Marks, isMarked}
+use Rattle.primes.proofs.Marking.{marked-is}
 use Rattle.chart_arrays.specs.Columns.{columnsOf}
+use Rattle.chart_arrays.proofs.Theorems.{serving-word}
 use Rattle.essentials.specs.Steps.{PrimeWords}
 use Rattle.essentials.proofs.prime_words.Statement.{statement}
 use Rattle.essentials.proofs.prime_words.Tie as tie
 
+-- the word of a cube by its mark
+of-mark : (n : ℕ) (t marks : List ℕ) → Marks (servingPrime n t) marks (3 ^ n) → (q w : ℕ) → q < 3 ^ n → w ≡ cond (isMarked marks q) (columnsOf n t q) 0
+    → w ≡ cond (prime n t q) (columnsOf n t q) 0
+of-mark n t marks m q w l e =
+    e ∙ ap (λ (b : Bool). cond b (columnsOf n t q) 0) (marked-is (servingPrime n t) marks (3 ^ n) q m l) ∙ serving-word n t q
+
 abbrev Inv-loop : tie.InvT-loop
 Inv-loop n table marks words₀ cubes q₀ words q =
-    (Flagged n table marks × Marks (prime n table) marks (3 ^ n)) × (3 ^ n ≤ length words) × (length words ≡ length words₀) × (cubes ≡ 3 ^ n)
+    (Markable n table marks × Marks (servingPrime n table) marks (3 ^ n)) × (3 ^ n ≤ length words) × (length words ≡ length words₀) × (cubes ≡ 3 ^ n)
     × (q ≤ cubes) × PrimeWords n table words q
 
 abbrev μ-loop : tie.MeasureT-loop
@@ -65,7 +73,7 @@ loop-again c =
       i .3,
       omega arith,
       fill-more (λ p. cond (prime n t p) (columnsOf n t p) 0) (c .before .before .loop .words) _ _ (slice-write-words c) (i .5)
-          (c .prime-word .ensures ∙ ap (λ (b : Bool). cond b (columnsOf n t q) 0) (marked-is (prime n t) (s .args .marks .now) (3 ^ n) q (i .0 .1) l)),
+          (of-mark n t (s .args .marks .now) (i .0 .1) q _ l (c .prime-word .ensures)),
     )
 
 same-length : tie.Need-same-length Inv-loop μ-loop

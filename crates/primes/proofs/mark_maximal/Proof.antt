@@ -8,18 +8,18 @@ use borrow.Author.Needs.{needs}
 use Rattle.numbers.specs.Below.{flag}
 use Rattle.cube.specs.Calls.{widest}
 use Rattle.numbers.proofs.Lent.{fill-more}
-use Rattle.primes.specs.Steps.{Marks, KeptFrom, primeBy}
-use Rattle.primes.proofs.Flags.{byte-is}
+use Rattle.primes.specs.Steps.{Marks, KeptFrom, servingPrimeBy}
+use Rattle.primes.proofs.Marking.{byte-is}
 use Rattle.primes.proofs.mark_maximal.Statement.{statement}
 use Rattle.primes.proofs.mark_maximal.Tie as tie
 
 abbrev Inv-loop : tie.InvT-loop
-Inv-loop n flags marks₀ cubes q₀ marks q =
-    (n ≤ widest) × (3 ^ n ≤ length flags) × (3 ^ n ≤ length marks) × (length marks ≡ length marks₀) × (cubes ≡ 3 ^ n) × (q ≤ cubes)
-    × Marks (primeBy n flags) marks q × KeptFrom q marks₀ marks
+Inv-loop n kinds marks₀ cubes q₀ marks q =
+    (n ≤ widest) × (3 ^ n ≤ length kinds) × (3 ^ n ≤ length marks) × (length marks ≡ length marks₀) × (cubes ≡ 3 ^ n) × (q ≤ cubes)
+    × Marks (servingPrimeBy n kinds) marks q × KeptFrom q marks₀ marks
 
 abbrev μ-loop : tie.MeasureT-loop
-μ-loop n flags marks₀ cubes q₀ marks q = cubes - q
+μ-loop n kinds marks₀ cubes q₀ marks q = cubes - q
 
 cubes-requires : tie.Need-cubes-requires Inv-loop μ-loop
 cubes-requires c κs = search needs
@@ -27,8 +27,8 @@ cubes-requires c κs = search needs
 loop-holds : tie.Need-loop-holds Inv-loop μ-loop
 loop-holds c = (search needs, search needs, search needs, refl, search needs, search needs, λ k l. absurd (omega arith), λ k l. refl)
 
-is-prime-requires : tie.Need-is-prime-requires Inv-loop μ-loop
-is-prime-requires c κs = omega arith
+is-serving-prime-requires : tie.Need-is-serving-prime-requires Inv-loop μ-loop
+is-serving-prime-requires c κs = omega arith
 
 cast-marks : tie.Need-cast-marks Inv-loop μ-loop
 cast-marks c = search needs
@@ -52,7 +52,7 @@ loop-again c =
       simp length-set (i .3),
       i .4,
       omega arith,
-      fill-more (λ q. flag (primeBy (s .args .n) (s .args .flags .now) q)) (c .before .before .loop .marks) _ _ (slice-write-marks c) (i .6) (byte-is _ _ (c .is-prime .ensures)),
+      fill-more (λ q. flag (servingPrimeBy (s .args .n) (s .args .kinds .now) q)) (c .before .before .loop .marks) _ _ (slice-write-marks c) (i .6) (byte-is _ _ (c .is-serving-prime .ensures)),
       λ k l. getD-set-other (c .before .before .loop .marks) _ k _ 0 (λ d. omega arith) ∙ i .7 k (omega arith),
     )
 
@@ -65,4 +65,4 @@ returns c = record { marks = λ k l. c .before .loop .inv .6 k (omega arith); ke
 pub mark-maximal-spec : {M : Type 1} → statement M
 mark-maximal-spec =
     tie.close
-    (tie.spec Inv-loop μ-loop cubes-requires loop-holds is-prime-requires cast-marks slice-write-marks add-q loop-less loop-again same-length returns)
+    (tie.spec Inv-loop μ-loop cubes-requires loop-holds is-serving-prime-requires cast-marks slice-write-marks add-q loop-less loop-again same-length returns)

@@ -2,7 +2,7 @@
 use mathlib.Core.Path.{_≡_, sym, _∙_}
 use lib.ListN.{length}
 use borrow.Author.Needs.{needs}
-use Rattle.cube.specs.Words.{primesOf}
+use Rattle.cube.specs.Words.{servingPrimesOf}
 use Rattle.cube.proofs.Calls.{primes-most}
 use Rattle.primes.specs.Primes.{primesRefuses}
 use Rattle.primes.proofs.Listing.{listable, listing-refused, listing-done}
@@ -18,10 +18,10 @@ listing-refusal-requires c κs = search needs
 returns : tie.Need-returns
 returns c =
     let s = c .before .before .before .before .args in
-    listing-refused (s .n) (s .table .now) (primesOf (s .n) (s .table .now)) (s .out .now) _ (c .before .listing-refusal .ensures) (c .if1 .taken)
+    listing-refused (s .n) (s .table .now) (servingPrimesOf (s .n) (s .table .now)) (s .out .now) _ (c .before .listing-refusal .ensures) (c .if1 .taken)
 
-list-primes-requires : tie.Need-list-primes-requires
-list-primes-requires c κs = let s = c .before .before .before .before .before .args in let l = listable (s .n) (s .table .now) (length (s .out .now)) (none (c .before)) in (l .table .to, l .table .cells, l .enough)
+list-serving-primes-requires : tie.Need-list-serving-primes-requires
+list-serving-primes-requires c κs = let s = c .before .before .before .before .before .args in let l = listable (s .n) (s .table .now) (length (s .out .now)) (none (c .before)) in (l .table .to, l .table .cells, l .enough)
 
 same-length : tie.Need-same-length
 same-length c = search needs
@@ -29,8 +29,8 @@ same-length c = search needs
 returns-2 : tie.Need-returns-2
 returns-2 c =
     let s = c .before .before .before .before .before .before .before .before .args in
-    listing-done (s .n) (s .table .now) (primesOf (s .n) (s .table .now)) (s .out .now) (none (c .before .before .before .before))
-    (primes-most (s .n) (s .table .now)) (c .before .before .list-primes .ensures)
+    listing-done (s .n) (s .table .now) (servingPrimesOf (s .n) (s .table .now)) (s .out .now) (none (c .before .before .before .before))
+    (primes-most (s .n) (s .table .now)) (c .before .before .list-serving-primes .ensures)
 
 pub primes-spec : {M : Type 1} → statement M
-primes-spec = tie.close (tie.spec listing-refusal-requires returns list-primes-requires same-length returns-2)
+primes-spec = tie.close (tie.spec listing-refusal-requires returns list-serving-primes-requires same-length returns-2)

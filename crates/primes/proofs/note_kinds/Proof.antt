@@ -1,22 +1,20 @@
--- `primes::mark_implicants` meets its contract: the flags before q are right, and the next one is made from them. Assumes nothing.
+-- `primes::note_kinds` meets its contract: the kinds before q are right, and the next one is made from them. Assumes nothing.
 use mathlib.Core.Path.{_≡_, refl, subst}
 use Prim.Native.Nat.{ℕ, _-_, _^_, _<_, _≤_}
 use native.Mathlib.Omega.{arith}
 use lib.ListN.{length, length-set}
 use borrow.Author.Needs.{needs}
-use Rattle.numbers.specs.Below.{flag}
-use Rattle.cube.specs.Words.{implicant}
 use Rattle.numbers.proofs.Lent.{fill-more}
-use Rattle.primes.specs.Steps.{Flagged, Marks}
-use Rattle.primes.proofs.mark_implicants.Statement.{statement}
-use Rattle.primes.proofs.mark_implicants.Tie as tie
+use Rattle.primes.specs.Steps.{Markable, kindOf, Kinds}
+use Rattle.primes.proofs.note_kinds.Statement.{statement}
+use Rattle.primes.proofs.note_kinds.Tie as tie
 
 abbrev Inv-loop : tie.InvT-loop
-Inv-loop n table flags₀ cubes q₀ flags q =
-    Flagged n table flags × (length flags ≡ length flags₀) × (cubes ≡ 3 ^ n) × (q ≤ cubes) × Marks (implicant n table) flags q
+Inv-loop n table kinds₀ cubes q₀ kinds q =
+    Markable n table kinds × (length kinds ≡ length kinds₀) × (cubes ≡ 3 ^ n) × (q ≤ cubes) × Kinds n table kinds q
 
 abbrev μ-loop : tie.MeasureT-loop
-μ-loop n table flags₀ cubes q₀ flags q = cubes - q
+μ-loop n table kinds₀ cubes q₀ kinds q = cubes - q
 
 cubes-requires : tie.Need-cubes-requires Inv-loop μ-loop
 cubes-requires c κs = search needs
@@ -24,13 +22,13 @@ cubes-requires c κs = search needs
 loop-holds : tie.Need-loop-holds Inv-loop μ-loop
 loop-holds c = (search needs, refl, search needs, search needs, λ k l. absurd (omega arith))
 
-implicant-flag-requires : tie.Need-implicant-flag-requires Inv-loop μ-loop
-implicant-flag-requires c κs =
+cube-kind-requires : tie.Need-cube-kind-requires Inv-loop μ-loop
+cube-kind-requires c κs =
     let i = c .before .before .loop .inv in
     (i .0, subst (λ (j : ℕ). c .before .before .loop .q < j) (i .2) (c .before .loop-test .taken), i .4)
 
-slice-write-flags : tie.Need-slice-write-flags Inv-loop μ-loop
-slice-write-flags c = omega (arith, c .before .before .before .loop .inv .0 .enough)
+slice-write-kinds : tie.Need-slice-write-kinds Inv-loop μ-loop
+slice-write-kinds c = omega (arith, c .before .before .before .loop .inv .0 .enough)
 
 add-q : tie.Need-add-q Inv-loop μ-loop
 add-q c = omega arith
@@ -46,7 +44,7 @@ loop-again c =
       simp length-set (i .1),
       i .2,
       omega arith,
-      fill-more (λ q. flag (implicant (s .args .n) (s .args .table .now) q)) (c .before .before .before .loop .flags) _ _ (slice-write-flags c) (i .4) (c .implicant-flag .ensures),
+      fill-more (kindOf (s .args .n) (s .args .table .now)) (c .before .before .before .loop .kinds) _ _ (slice-write-kinds c) (i .4) (c .cube-kind .ensures),
     )
 
 same-length : tie.Need-same-length Inv-loop μ-loop
@@ -55,7 +53,7 @@ same-length c = c .before .loop .inv .1
 returns : tie.Need-returns Inv-loop μ-loop
 returns c = λ k l. c .before .loop .inv .4 k (omega arith)
 
-pub mark-implicants-spec : {M : Type 1} → statement M
-mark-implicants-spec =
+pub note-kinds-spec : {M : Type 1} → statement M
+note-kinds-spec =
     tie.close
-    (tie.spec Inv-loop μ-loop cubes-requires loop-holds implicant-flag-requires slice-write-flags add-q loop-less loop-again same-length returns)
+    (tie.spec Inv-loop μ-loop cubes-requires loop-holds cube-kind-requires slice-write-kinds add-q loop-less loop-again same-length returns)
