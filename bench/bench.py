@@ -128,7 +128,7 @@ def report(name, problems, listed, solvers, lines):
     for number, (rows, weight, nodes, depth, took) in enumerate(answers if lines else []):
         print("%s %3d: %2d rows, weight %6d, %4d nodes, depth %2d, %8.1f us" % (name, number, rows, weight, nodes, depth, took))
     wrong = sum(weight != right for (_, weight, *_), right in zip(answers, listed or []))
-    print("\n%s: %d charts%s" % (name, len(answers), "" if listed is None else ", %d not at the listed optimum" % wrong))
+    print("\n%s: %d charts of %d rows in all%s" % (name, len(answers), sum(a[0] for a in answers), "" if listed is None else ", %d not at the listed optimum" % wrong))
     print("nodes: %d in all, %d at most; depth of calls: %d at most; stack: %d bytes" % (
         sum(a[2] for a in answers), max(a[2] for a in answers), max(a[3] for a in answers), stack))
     print("time in the search: %.1f ms in all, %.2f ms at most" % (sum(a[4] for a in answers) / 1e3, max(a[4] for a in answers) / 1e3))
@@ -164,6 +164,8 @@ def main(words):
     solvers = [] if quick else list(SOLVERS)
     tables = list(charts.tables(TABLES))
     wrong = report("hard6", [charts.chart(width, cells) for width, cells, _ in tables], [weight for _, _, weight in tables], solvers, True)
+    dense = list(charts.tables(DENSE))
+    wrong += report("dense", [charts.chart(width, cells) for width, cells, _ in dense], [weight for _, _, weight in dense], [], False)
     slow = list(charts.tables(ADVERSARIAL))
     wrong += report("adversarial6", [charts.chart(width, cells) for width, cells, _ in slow], [weight for _, _, weight in slow], solvers[1:], False)
     if not quick:

@@ -19,6 +19,8 @@
  *                 matches no barred code matches everything that it matches
  *   essential     a prime that alone of all primes matches some wanted code
  *
+ * A prime may match free codes alone. Then it serves nobody, and is not listed.
+ *
  * Memory
  *
  * The caller owns all memory. An array is lent for the call only. It has at least the length that is
@@ -74,7 +76,8 @@ int32_t rows_spell(size_t n, size_t cube, uint8_t *value, uint8_t *care);
  */
 int32_t rows_cells(size_t n, size_t cube, uint8_t *codes, size_t codes_len);
 
-/* The cube numbers of all primes of the table, ascending, into the first places of cubes.
+/* The cube numbers of the primes of the table that match a wanted code, ascending, into the first places
+ * of cubes.
  *
  * Answers how many there are.
  * Refuses 1, 2, 3, then 4 when cubes_len is below 3^n, even if there are fewer primes.
@@ -82,7 +85,7 @@ int32_t rows_cells(size_t n, size_t cube, uint8_t *codes, size_t codes_len);
 int32_t rows_primes(size_t n, const uint8_t *table, size_t table_len, uint16_t *cubes, size_t cubes_len);
 
 /* A row of the chart: the cube number of a prime, the wanted codes that it matches, and how many bits it
- * tests. Bit c of word stands for code c; it is 0 where c is free or barred.
+ * tests. Bit c of word stands for code c; it is 0 where c is free or barred. Some bit of it is 1.
  */
 struct rows_chart_row {
     uint16_t cube;
@@ -90,7 +93,8 @@ struct rows_chart_row {
     uint8_t literals;
 };
 
-/* The chart of the table, a row for each prime, ascending by cube number, into the first places of rows.
+/* The chart of the table, a row for each prime that matches a wanted code, ascending by cube number, into
+ * the first places of rows.
  *
  * Answers how many there are.
  * Refuses 1, 2, 3, then 4 when rows_len is below 3^n, even if there are fewer primes.

@@ -5,8 +5,8 @@
     charts.py random SEED N      N random charts of six-bit tables
 
 A table is a line "width cells rows bits", a cell for each code from 0 up: 0 barred, 1 wanted,
-- free. Its chart has a row for each prime implicant and a column for each wanted code; a row
-weighs 10,000 and its tested bits. A problem is written in hexadecimal: the number of rows, the
+- free. Its chart has a row for each prime implicant that matches a wanted code and a column for
+each wanted code; a row weighs 10,000 and its tested bits. A problem is written in hexadecimal: the number of rows, the
 set of columns, and for each row its set of columns and its weight.
 """
 import random
@@ -43,7 +43,7 @@ def chart(width, cells):
         (sum(1 << code for code in wanted if code & care == value), 10000 + bin(care).count("1"))
         for value, care in sorted(primes(width, cells))
     ]
-    return sum(1 << code for code in wanted), rows
+    return sum(1 << code for code in wanted), [row for row in rows if row[0] != 0]
 
 
 def show(columns, rows):

@@ -98,6 +98,16 @@ size_t find_primes(size_t n, const uint8_t *table, struct term *primes) {
     return count;
 }
 
+size_t find_serving(size_t n, const uint8_t *table, struct term *primes) {
+    size_t all = find_primes(n, table, primes), count = 0;
+    for (size_t i = 0; i < all; i++) {
+        if (primes[i].wanted != 0) {
+            primes[count++] = primes[i];
+        }
+    }
+    return count;
+}
+
 int32_t verdict(size_t n, const uint8_t *table, const uint8_t *values, const uint8_t *cares, size_t rows) {
     for (size_t code = 0; code < power(2, n); code++) {
         int hit = 0;

@@ -32,6 +32,9 @@ struct term {
 
 size_t find_primes(size_t n, const uint8_t *table, struct term *primes);
 
+/* Those of them that match a wanted code. */
+size_t find_serving(size_t n, const uint8_t *table, struct term *primes);
+
 /* What Check answers for a formed list, in C. */
 int32_t verdict(size_t n, const uint8_t *table, const uint8_t *values, const uint8_t *cares, size_t rows);
 

@@ -2,7 +2,7 @@
 """Computes the worked examples of examples.txt by brute force, and says where examples.txt, or the program `examples` of the crate of that name, differs.
 
     python3 check.py            all examples
-    python3 check.py NAME..     what is computed for these: primes, essential ones marked *, and the counts
+    python3 check.py NAME..     what is computed for these: primes, essential ones marked *, those that match no wanted code ?, and the counts
     python3 check.py --print    what the program must print: the file crates/examples/stdout
 
 A cube is a string of 0, 1 and -, x1 first. It is handled as the set of codes that it matches, a number whose bit c
@@ -80,11 +80,12 @@ def shortest(found, wanted):
 
 
 def compute(width, table):
+    """All primes, those of them that match a wanted code, the essential ones, and the rows and bits of the shortest list."""
     wanted, barred = (sum(1 << c for c, cell in enumerate(table) if cell == mark) for mark in '10')
     found = implicants(width, barred)
     all_primes = primes(found)
     assert sorted(all_primes) == sorted(unchecked(width, 2 ** 2 ** width - 1 - barred))
-    return all_primes, essentials(found, all_primes, wanted), shortest(found, wanted)
+    return all_primes, [q for q in all_primes if found[q] & wanted], essentials(found, all_primes, wanted), shortest(found, wanted)
 
 
 def listing(title, cubes):
@@ -93,17 +94,17 @@ def listing(title, cubes):
 
 
 def section(name, found):
-    """What the program prints for an example."""
-    all_primes, essential, (rows, tested) = found
-    return name + '\n' + listing('primes', all_primes) + listing('essentials', essential) + '  plan rows %d bits %d\n' % (rows, tested)
+    """What the program prints for an example: of the primes, those that match a wanted code."""
+    _, serving, essential, (rows, tested) = found
+    return name + '\n' + listing('primes', serving) + listing('essentials', essential) + '  plan rows %d bits %d\n' % (rows, tested)
 
 
 def examples():
-    """The examples of examples.txt: name, width, table, and the four counts."""
+    """The examples of examples.txt: name, width, table, and the five counts."""
     for line in (HERE / 'examples.txt').read_text().splitlines():
         if line and not line.startswith('#'):
             name, width, table, *said = line.split()
-            assert len(table) == 2 ** int(width) and set(table) <= set('01-') and len(said) == 4, line
+            assert len(table) == 2 ** int(width) and set(table) <= set('01-') and len(said) == 5, line
             yield name, int(width), table, [int(count) for count in said]
 
 
@@ -135,8 +136,8 @@ def check():
     output, whole = (CRATE / 'stdout').read_text(), ''
     printed = sections(output)
     for name, width, table, said in examples():
-        all_primes, essential, shortest_list = found = compute(width, table)
-        counts = [len(all_primes), len(essential), *shortest_list]
+        all_primes, serving, essential, shortest_list = found = compute(width, table)
+        counts = [len(all_primes), len(serving), len(essential), *shortest_list]
         expect(counts == said, name, 'says', *said, 'and is', *counts)
         expect(printed.get(name) == section(name, found), name, 'is printed as\n%s\nand is\n%s' % (printed.get(name), section(name, found)))
         whole += section(name, found)
@@ -152,8 +153,8 @@ def main(words):
         if words == ['--print']:
             print(section(name, compute(width, table)), end='')
         elif name in words:
-            all_primes, essential, (rows, tested) = compute(width, table)
-            print(name, *(q + '*' * (q in essential) for q in all_primes), len(all_primes), len(essential), rows, tested)
+            all_primes, serving, essential, (rows, tested) = compute(width, table)
+            print(name, *(q + '*' * (q in essential) + '?' * (q not in serving) for q in all_primes), len(all_primes), len(serving), len(essential), rows, tested)
     return 0
 
 

@@ -107,9 +107,9 @@ static int32_t try_listing(int essentials, size_t n, const uint8_t *cells, size_
     k = k ? k : cubes_len < power(3, n) ? 4 : 0;
     calling = essentials ? "rows_essentials" : "rows_primes";
     int32_t answer = (essentials ? rows_essentials : rows_primes)(n, table, table_len, cubes, cubes_len), count = 0;
-    size_t all = k ? 0 : find_primes(n, cells, primes);
+    size_t listed = k ? 0 : (essentials ? find_primes : find_serving)(n, cells, primes);
     int right = kept(0, 0);
-    for (size_t i = 0; i < all; i++) {
+    for (size_t i = 0; i < listed; i++) {
         if (!essentials || primes[i].essential) {
             right = right && cubes[count++] == primes[i].cube;
         }
@@ -133,7 +133,7 @@ int32_t try_chart(size_t n, const uint8_t *cells, size_t table_len, size_t rows_
     k = k ? k : rows_len < power(3, n) ? 4 : 0;
     calling = "rows_chart";
     int32_t answer = rows_chart(n, table, table_len, rows, rows_len);
-    size_t count = k ? 0 : find_primes(n, cells, primes);
+    size_t count = k ? 0 : find_serving(n, cells, primes);
     int right = kept(0, 0) && kept(1, count * sizeof *rows);
     for (size_t i = 0; i < count; i++) {
         right = right && rows[i].cube == primes[i].cube && rows[i].word == primes[i].wanted && rows[i].literals == primes[i].tested;

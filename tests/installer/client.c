@@ -25,6 +25,7 @@ int main(void) {
     setvbuf(stdout, NULL, _IOLBF, 0);
     edges();
     filled_places();
+    free_codes();
     cases();
     long_arrays();
     every_cube();

@@ -77,6 +77,7 @@ void refusals_of_read(void);
 void round_trips(void);
 void edges(void);
 void filled_places(void);
+void free_codes(void);
 void cases(void);
 void long_arrays(void);
 

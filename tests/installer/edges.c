@@ -56,7 +56,10 @@ static void cells_at_the_edge(void) {
     for (size_t c = 0; c < 64; c++) {
         memset(cells, 0, 64);
         cells[c] = 2;
-        table("cell 2 passes", cells, 64, 1, 0, 0, 0);
+        table("cell 2 passes", cells, 64, 0, 0, 0, 0);
+        cells[c ^ 1] = 1;
+        table("cell 2 is free", cells, 64, 1, 1, 10005, 1 + (int32_t)(c ^ 1));
+        cells[c ^ 1] = 0;
         cells[c] = 3;
         table("cell 3 refuses", cells, 64, -3, -3, -3, -3);
         cells[c] = 1;
@@ -164,7 +167,7 @@ static const struct example examples[] = {
     {"a", "00", 1, 0, 0, 0, 0},
     {"b", "11", 1, 1, 1, 1, 0},
     {"c", "0201", 2, 1, 1, 1, 1},
-    {"d", "1002", 2, 2, 1, 1, 2},
+    {"d", "1002", 2, 1, 1, 1, 2},
     {"e", "01111110", 3, 6, 0, 3, 6},
     {"f", "0000000101101111", 4, 4, 4, 4, 11},
     {"g", "1111101111010001", 4, 6, 3, 3, 6},
@@ -188,6 +191,39 @@ void filled_places(void) {
             answers("a place fewer for values", try_plan(n, cells, codes(n), most - 1, most), -4);
             answers("a place fewer for cares", try_plan(n, cells, codes(n), most, most - 1), -4);
             answers("a place fewer for both", try_plan(n, cells, codes(n), most - 1, most - 1), -4);
+        }
+    }
+}
+
+/* The calls on a table of free codes and a few others: how many primes match a wanted code, which are the chart's rows, how many are essential, and Plan. */
+static void free_table(const char *sentence, size_t n, const uint8_t *cells, int32_t primes, int32_t essentials, int32_t plan) {
+    answers(sentence, try_primes(n, cells, codes(n), cubes(n)), primes);
+    answers(sentence, try_chart(n, cells, codes(n), cubes(n)), primes);
+    answers(sentence, try_essentials(n, cells, codes(n), cubes(n)), essentials);
+    answers(sentence, try_plan(n, cells, codes(n), code_pairs(n), code_pairs(n)), plan);
+}
+
+/* Primes that match free codes alone are not listed. With one barred code the primes test a bit each, for every bit the other value than that code's; those that
+ * match the one wanted code test a bit in which the two differ. */
+void free_codes(void) {
+    uint8_t cells[MOST_CODES];
+    for (size_t n = 1; n <= WIDEST; n++) {
+        memset(cells, 2, sizeof cells);
+        free_table("all codes free", n, cells, 0, 0, 0);
+        for (size_t wanted = 0; wanted < codes(n); wanted++) {
+            cells[wanted] = 1;
+            free_table("one wanted code among free ones", n, cells, 1, 1, 10000);
+            for (size_t barred = 0; barred < codes(n); barred++) {
+                int32_t differ = (int32_t)ones(wanted ^ barred);
+                if (differ > 0) {
+                    cells[barred] = 0;
+                    free_table("one wanted and one barred code among free ones", n, cells, differ, differ == 1, 10001);
+                    cells[barred] = 2;
+                }
+            }
+            cells[wanted] = 0;
+            free_table("one barred code among free ones", n, cells, 0, 0, 0);
+            cells[wanted] = 2;
         }
     }
 }
