@@ -7,9 +7,9 @@ use native.Mathlib.Omega.{arith}
 use lib.Dec.{T, ltb, ltb→lt, lt→ltb}
 use borrow.Author.Tests.{lt-ltb}
 use Rattle.numbers.specs.Below.{flag}
-use Rattle.cube.specs.Words.{onSet, cubeMatches, prime, serves, servingPrime}
+use Rattle.cube.specs.Words.{onSet, cubeMatches, prime, serves, servingPrime, column}
 use Rattle.numbers.proofs.Bools.{and-l, and-r}
-use Rattle.chart_arrays.specs.Columns.{column, columnsOf}
+use Rattle.chart_arrays.specs.Columns.{columnsOf}
 use Rattle.chart_arrays.specs.Theorems.{WordTells}
 use Rattle.chart_arrays.proofs.Columns.{word-lt, word-some, bit-word}
 

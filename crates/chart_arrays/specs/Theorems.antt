@@ -6,8 +6,8 @@ use mathlib.Core.List.{List}
 use Prim.Native.Nat.{ℕ, _^_, _/_, _%_, _<_}
 use lib.Dec.{T, ltb}
 use Rattle.numbers.specs.Below.{flag}
-use Rattle.cube.specs.Words.{onSet, cubeMatches, serves}
-use Rattle.chart_arrays.specs.Columns.{column, columnsOf}
+use Rattle.cube.specs.Words.{onSet, cubeMatches, serves, column}
+use Rattle.chart_arrays.specs.Columns.{columnsOf}
 
 -- bit c of a word
 abbrev pub bit : ℕ → ℕ → ℕ

@@ -24,30 +24,23 @@ module _ (n : ℕ) (t : List ℕ) where
   -- ---- single asterisk rows
 
   asterisk-to : (q : ℕ) → SingleAsterisk n t q → SingleAsteriskLeft n t q
-  asterisk-to q a = record {
-    row = crossed q (a .column) (a .row) (a .is-column) (a .entry);
-    column = a .column;
-    is-column = a .is-column;
-    entry = a .entry;
-    sole = λ p r x. omega (arith, a .sole p (r .row) x);
-  }
+  unfolding crossed
+  asterisk-to q a = record { row = crossed q (a .column) (a .row) (a .is-column) (a .entry); sole = λ p r x. omega (arith, a .sole p (r .row) x) }
 
   asterisk-from : (q : ℕ) → SingleAsteriskLeft n t q → SingleAsterisk n t q
-  asterisk-from q a = record {
-    row = a .row .row;
-    column = a .column;
-    is-column = a .is-column;
-    entry = a .entry;
-    sole = λ p i x. omega (arith, a .sole p (crossed p (a .column) i (a .is-column) x) x);
-  }
+  asterisk-from q a =
+      let r = a .row in
+      record {
+        row = r .row;
+        column = r .column;
+        is-column = r .is-column;
+        entry = r .entry;
+        sole = λ p i x. omega (arith, a .sole p (crossed p (r .column) i (r .is-column) x) x);
+      }
 
   -- ---- basis rows
 
-  -- a selection of rows that are left is a selection
-  selection-of : (selected : List ℕ) → SelectionLeft n t selected → Selection n t selected
-  selection-of selected s = record { rows = λ q a. s .rows q a .row; columns = s .columns }
-
-  -- and the rows of a selection that are left are one
+  -- the rows of a selection that are left are a selection
   module _ (selected : List ℕ) (s : Selection n t selected) where
     left : List ℕ
     left = kept (serves n t) selected
@@ -55,10 +48,13 @@ module _ (n : ℕ) (t : List ℕ) where
     left-selected : SelectionLeft n t left
     unfolding left
     left-selected = record {
-      rows = λ q a. let r = kept-in (serves n t) selected q a in crossed-by n t q (s .rows q (r .0)) (r .1);
-      columns = λ c k.
-          let r = s .columns c k in
-          (r .0, kept-has (serves n t) selected (r .0) (r .1) (serves-by n t (r .0) c (k .row) (k .one) (r .2)), r .2);
+      selection = record {
+        rows = λ q a. s .rows q (kept-in (serves n t) selected q a .0);
+        columns = λ c k.
+            let r = s .columns c k in
+            (r .0, kept-has (serves n t) selected (r .0) (r .1) (serves-by n t (r .0) c (k .row) (k .one) (r .2)), r .2);
+      };
+      left = λ q a. let r = kept-in (serves n t) selected q a in crossed-by n t q (s .rows q (r .0)) (r .1);
     }
 
     left-most : length left ≤ length selected
@@ -78,16 +74,13 @@ module _ (n : ℕ) (t : List ℕ) where
   basis-to selected b =
       let s = b .selection in
       record {
-        selection = record {
-          rows = all-left selected s (b .fewest (left selected s) (selection-of (left selected s) (left-selected selected s)));
-          columns = s .columns;
-        };
-        fewest = λ other o. omega (arith, b .fewest other (selection-of other o));
+        selection = record { selection = s; left = all-left selected s (b .fewest (left selected s) (left-selected selected s .selection)) };
+        fewest = λ other o. omega (arith, b .fewest other (o .selection));
       }
 
   basis-from : (selected : List ℕ) → BasisRowsLeft n t selected → BasisRows n t selected
   basis-from selected b = record {
-    selection = selection-of selected (b .selection);
+    selection = b .selection .selection;
     fewest = λ other o. omega (arith, b .fewest (left other o) (left-selected other o), left-most other o);
   }
 

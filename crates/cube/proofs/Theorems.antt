@@ -8,7 +8,7 @@ use Prim.Native.Nat.{ℕ, _^_, _<_}
 use native.Mathlib.Omega.{arith}
 use lib.Dec.{T, eqb, ltb, eqb→eq, lt→ltb}
 use Rattle.numbers.specs.Below.{some}
-use Rattle.cube.specs.Words.{cell, onSet, offSet, Cover, coverMatches, asked, implements, cubeMatches, cubeLiterals, implicant, within, wider, prime, alone, essential, serves}
+use Rattle.cube.specs.Words.{cell, onSet, offSet, Cover, coverMatches, asked, implements, cubeMatches, cubeLiterals, implicant, within, wider, prime, alone, essential, column, serves}
 use Rattle.cube.specs.Theorems.{Meanings}
 use Rattle.numbers.proofs.Bools.{and-l, and-r, and-i, imp-e, imp-i, nand-e, nand-i, not-e, not-i, eqb-of, eq-or-ne}
 use Rattle.numbers.proofs.Below.{every-at, every-by, some-at, some-by, none-at, none-by}
@@ -97,17 +97,14 @@ module _ (n : ℕ) (t : List ℕ) where
         let c = s .0 in
         and-i (prime n t q) (some (2 ^ n) sole) (h .0) (some-by (2 ^ n) sole c (s .1) (and-i (onSet t c) (alone n t q c) (s .2) (alone-by c (s .3) (s .4))))
 
-    matched : ℕ → Bool
-    matched c = onSet t c && cubeMatches n q c
-
     pub serves-at : T (serves n t q) → (c : ℕ) × (c < 2 ^ n) × T (onSet t c) × T (cubeMatches n q c)
-    unfolding serves matched
+    unfolding serves
     serves-at h =
-        let s = some-at (2 ^ n) matched h in (s .0, s .1, and-l (onSet t (s .0)) (cubeMatches n q (s .0)) (s .2), and-r (onSet t (s .0)) (cubeMatches n q (s .0)) (s .2))
+        let s = some-at (2 ^ n) (column n t q) h in (s .0, s .1, and-l (onSet t (s .0)) (cubeMatches n q (s .0)) (s .2), and-r (onSet t (s .0)) (cubeMatches n q (s .0)) (s .2))
 
     pub serves-by : (c : ℕ) → c < 2 ^ n → T (onSet t c) → T (cubeMatches n q c) → T (serves n t q)
-    unfolding serves matched
-    serves-by c l w m = some-by (2 ^ n) matched c l (and-i (onSet t c) (cubeMatches n q c) w m)
+    unfolding serves
+    serves-by c l w m = some-by (2 ^ n) (column n t q) c l (and-i (onSet t c) (cubeMatches n q c) w m)
 
   pub meanings : Meanings n t
   unfolding Sole

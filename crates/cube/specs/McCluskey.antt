@@ -149,18 +149,15 @@ pub record Agreement (n : ℕ) (t : List ℕ) : Type 0 where
 
 -- ---- his table without the rows that have no cross
 
--- a single asterisk row of what is left
+-- a single asterisk row of what is left: its cross is the sole entry of that column
 pub record SingleAsteriskLeft (n : ℕ) (t : List ℕ) (q : ℕ) : Type 0 where
   pub row : CrossedRow n t q
-  pub column : ℕ
-  pub is-column : Column n t column
-  pub entry : T (cross n column q)
-  pub sole : (p : ℕ) → CrossedRow n t p → T (cross n column p) → p ≡ q
+  pub sole : (p : ℕ) → CrossedRow n t p → T (cross n (row .column) p) → p ≡ q
 
 -- a selection of rows that are left
 pub record SelectionLeft (n : ℕ) (t selected : List ℕ) : Type 0 where
-  pub rows : (q : ℕ) → T (among q selected) → CrossedRow n t q
-  pub columns : (c : ℕ) → Column n t c → (q : ℕ) × T (among q selected) × T (cross n c q)
+  pub selection : Selection n t selected
+  pub left : (q : ℕ) → T (among q selected) → CrossedRow n t q
 
 -- basis rows of what is left
 pub record BasisRowsLeft (n : ℕ) (t selected : List ℕ) : Type 0 where

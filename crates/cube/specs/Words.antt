@@ -175,9 +175,13 @@ alone n t q c = cubeMatches n q c && not (some (3 ^ n) (λ p. (prime n t p && cu
 unfoldable pub essential : ℕ → List ℕ → ℕ → Bool
 essential n t q = prime n t q && some (2 ^ n) (λ c. onSet t c && alone n t q c)
 
+-- code c is wanted, and cube q matches it: "Free and barred codes are never columns."
+abbrev pub column : ℕ → List ℕ → ℕ → ℕ → Bool
+column n t q c = onSet t c && cubeMatches n q c
+
 -- "match a wanted code" (document 02): the cube serves
 unfoldable pub serves : ℕ → List ℕ → ℕ → Bool
-serves n t q = some (2 ^ n) (λ c. onSet t c && cubeMatches n q c)
+serves n t q = some (2 ^ n) (column n t q)
 
 -- "all primes, ascending by cube number": all of document 01's primes, whether they serve or not
 unfoldable pub primesOf : ℕ → List ℕ → List ℕ

@@ -12,14 +12,14 @@ use lib.ListN.{length, getD, set}
 use lib.Seq.{getD-set-same, getD-set-other}
 use borrow.Author.Tests.{le-leb, eq-eqb, ne-eqb}
 use Rattle.numbers.specs.Below.{flag}
-use Rattle.cube.specs.Words.{onSet, cubeMatches, prime, essential, primesOf}
+use Rattle.cube.specs.Words.{onSet, cubeMatches, prime, essential, primesOf, column}
 use Rattle.cube.specs.McCluskey as mccluskey
 use Rattle.numbers.proofs.Bools.{and-l, and-r, and-i, is-true, is-false, holds}
 use Rattle.numbers.proofs.Below.{count-none, count-suc, count-those, those-same}
 use Rattle.cube.proofs.McCluskey.{agreement}
 use Rattle.matrix.specs.Sets.{has, In, Meeting}
 use Rattle.matrix.proofs.Bits.{has-zero}
-use Rattle.chart_arrays.specs.Columns.{column, columnsOf}
+use Rattle.chart_arrays.specs.Columns.{columnsOf}
 use Rattle.chart_arrays.proofs.Columns.{bit-has}
 use Rattle.chart_arrays.proofs.Theorems.{word-tells}
 use Rattle.essentials.specs.Steps.{PrimeWords, entries, Seen, SoleColumns, HolderMark, HolderMarks}

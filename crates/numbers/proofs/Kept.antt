@@ -11,6 +11,7 @@ use Rattle.numbers.specs.Below.{among}
 use Rattle.numbers.proofs.Bools.{or-e, or-l, or-r, holds}
 
 module _ (f : ℕ → Bool) where
+  -- those of the list that pass
   abbrev pub kept : List ℕ → List ℕ
   kept [] = []
   kept (q ∷ qs) = cond (f q) (q ∷ kept qs) (kept qs)

@@ -10,7 +10,7 @@ use native.Mathlib.Nat.{not-suc-le-zero, le-of-suc-le-suc}
 use native.Mathlib.Omega.{arith}
 use lib.Dec.{T, ltb, leb, lt→ltb, le→leb, leb→le}
 use lib.ListN.{length, getD}
-use Rattle.cube.specs.Words.{onSet, offSet, Row, Cover, rowMatches, formed, eachRow, allFormed, coverMatches, coverLiterals, implements, cubeMatches, cubeLiterals, rowOf, numberOf, implicant, prime, serves, servingPrime, servingPrimesOf}
+use Rattle.cube.specs.Words.{onSet, offSet, Row, Cover, rowMatches, formed, eachRow, allFormed, coverMatches, coverLiterals, implements, cubeMatches, cubeLiterals, rowOf, numberOf, implicant, prime, serves, servingPrime, servingPrimesOf, column}
 use Rattle.cube.specs.Minimum as lists
 use Rattle.numbers.proofs.Bools.{and-l, and-r, and-i, or-e, or-l, or-r, is-true, holds}
 use Rattle.numbers.proofs.Below.{those-at, those-ascend, those-place}
@@ -25,7 +25,7 @@ use Rattle.covering.specs.Weighted.{Within, Hits, weight, LeastCover}
 use Rattle.covering.proofs.Bounds.{hitter}
 use Rattle.matrix.specs.Sets.{has, In}
 use Rattle.matrix.specs.Matrix.{covers, weightOf}
-use Rattle.chart_arrays.specs.Columns.{column, columnsOf}
+use Rattle.chart_arrays.specs.Columns.{columnsOf}
 use Rattle.chart_arrays.proofs.Columns.{bit-has}
 use Rattle.chart_arrays.proofs.Theorems.{word-tells}
 use Rattle.plan.specs.Plan.{ascendsFrom, ascending}

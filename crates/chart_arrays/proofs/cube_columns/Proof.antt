@@ -6,10 +6,10 @@ use Prim.Native.Nat.{ℕ, _^_, _<_}
 use native.Mathlib.Omega.{arith}
 use lib.ListN.{length}
 use borrow.Author.Needs.{needs}
-use Rattle.cube.specs.Words.{onSet, valueOf, careOf}
+use Rattle.cube.specs.Words.{onSet, valueOf, careOf, column}
 use Rattle.cube.proofs.Calls.{codes-most}
 use Rattle.cube.proofs.Rows.{row-of-matches}
-use Rattle.chart_arrays.specs.Columns.{wordOf, column, columnsOf}
+use Rattle.chart_arrays.specs.Columns.{wordOf, columnsOf}
 use Rattle.chart_arrays.specs.Steps.{rowColumn}
 use Rattle.chart_arrays.proofs.Columns.{word-same}
 use Rattle.chart_arrays.proofs.cube_columns.Statement.{statement}
