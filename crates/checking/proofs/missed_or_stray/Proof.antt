@@ -3,6 +3,7 @@ use mathlib.Core.Path.{_≡_, sym, ap}
 use mathlib.Core.Bool.{Bool, true, false, cond}
 use mathlib.Core.List.{List}
 use Prim.Native.Nat.{ℕ}
+use native.Mathlib.Omega.{arith}
 use borrow.Author.Needs.{needs}
 use borrow.Author.Tests.{eq-eqb, ne-eqb}
 use Rattle.cube.specs.Words.{cell, onSet}
@@ -28,10 +29,10 @@ shared-slice-read-if1 : tie.Need-shared-slice-read-if1
 shared-slice-read-if1 c = search needs
 
 returns : tie.Need-returns
-returns c = let a = c .before .before .args in wanted (a .table .now) (a .c) (c .if1 .taken)
+returns c = let a = c .before .before .args in wanted (a .table .now) (a .c) (omega (arith, c .if1 .taken))
 
 returns-2 : tie.Need-returns-2
-returns-2 c = let a = c .before .before .args in unwanted (a .table .now) (a .c) (c .if1 .left)
+returns-2 c = let a = c .before .before .args in unwanted (a .table .now) (a .c) (λ e. omega (arith, e, c .if1 .left))
 
 pub missed-or-stray-spec : {M : Type 1} → statement M
 missed-or-stray-spec = tie.close (tie.spec cast-code shared-slice-read-if1 returns returns-2)

@@ -4,6 +4,7 @@ use mathlib.Core.Bool.{Bool, cond, not}
 use mathlib.Core.List.{List}
 use Prim.Native.Nat.{ℕ}
 use native.Mathlib.Nat.{lt-of-lt-of-le}
+use native.Mathlib.Omega.{arith}
 use lib.ListN.{getD}
 use borrow.Author.Tests.{eq-eqb, ne-eqb}
 use Rattle.primes.specs.Steps.{isMarked}
@@ -20,13 +21,13 @@ shared-slice-read-if1 : tie.Need-shared-slice-read-if1
 shared-slice-read-if1 c = lt-of-lt-of-le (c .before .before .before .pre .1) (c .before .before .before .pre .0 .enough)
 
 returns : tie.Need-returns
-returns c = unmarked (c .before .before .before .before .args .marks .now) (c .before .before .before .before .args .q) _ (c .if1 .taken)
+returns c = unmarked (c .before .before .before .before .args .marks .now) (c .before .before .before .before .args .q) _ (omega (arith, c .if1 .taken))
 
 cube-columns-requires : tie.Need-cube-columns-requires
 cube-columns-requires c κs = let s = c .before .before .before .before in (s .pre .0 .width, s .pre .0 .cells, s .pre .1)
 
 returns-2 : tie.Need-returns-2
-returns-2 c = marked (c .before .before .before .before .before .args .marks .now) (c .before .before .before .before .before .args .q) _ _ (c .before .if1 .left) (c .cube-columns .ensures)
+returns-2 c = marked (c .before .before .before .before .before .args .marks .now) (c .before .before .before .before .before .args .q) _ _ (λ e. omega (arith, e, c .before .if1 .left)) (c .cube-columns .ensures)
 
 pub prime-word-spec : {M : Type 1} → statement M
 prime-word-spec = tie.close (tie.spec shared-slice-read-if1 returns cube-columns-requires returns-2)
