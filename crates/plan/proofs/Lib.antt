@@ -1,4 +1,5 @@
--- From the weights to the chosen list, how Plan ends, what follows from its promise, and the wrong answers that the promise shuts out.
+-- From the weights to the chosen list, how Plan ends, what follows from its promise, lists that hold all primes, and the wrong answers that the promise
+-- shuts out.
 pub mod Weights
 pub mod Selections
 pub mod Refusals
@@ -6,4 +7,5 @@ pub mod Endings
 pub mod Choice
 pub mod Answers
 pub mod Theorems
+pub mod Sole
 pub mod Refuted

@@ -1,10 +1,12 @@
--- What Plan refuses: what the table is refused for, then 4 where either array is short. Assumes nothing.
-use mathlib.Core.Path.{_≡_}
+-- What Plan refuses: what the table is refused for, then 4 where either array is short, which an array with places for the widest list never is.
+-- Assumes nothing.
+use mathlib.Core.Path.{_≡_, refl, sym, _∙_}
 use mathlib.Core.Bool.{Bool, _||_}
 use mathlib.Core.List.{List}
-use Prim.Native.Nat.{ℕ, _<_, _≤_}
-use Rattle.cube.specs.Calls.{short, firstOf, tableConditions}
-use Rattle.cube.proofs.Calls.{Accepted, accepted, last-before, last-holds, last-passes, last-none, first-short, second-short, neither-short, both-long}
+use Prim.Native.Nat.{ℕ, zero, suc, _-_, _^_, _<_, _≤_}
+use native.Mathlib.Omega.{arith}
+use Rattle.cube.specs.Calls.{widest, short, firstOf, tableConditions}
+use Rattle.cube.proofs.Calls.{Accepted, accepted, code-pairs-most, last-before, last-holds, last-passes, last-none, first-short, second-short, neither-short, both-long}
 use Rattle.plan.specs.Plan.{planRefuses, planPlaces}
 
 module _ (n : ℕ) (t : List ℕ) (values cares : ℕ) where
@@ -23,6 +25,14 @@ module _ (n : ℕ) (t : List ℕ) (values cares : ℕ) where
 
     pub refuses-none : planPlaces n ≤ values → planPlaces n ≤ cares → 0 ≡ planRefuses n t values cares
     refuses-none v w = last-passes (tableConditions n t) tt is-short 3 e (neither-short values cares (planPlaces n) v w)
+
+  -- with places for the widest list, Plan refuses what a table is refused for
+  pub refuses-as-table : 2 ^ (widest - 1) ≤ values → 2 ^ (widest - 1) ≤ cares → planRefuses n t values cares ≡ firstOf (tableConditions n t)
+  refuses-as-table v w = go (firstOf (tableConditions n t)) refl
+    where
+      go : (k : ℕ) → firstOf (tableConditions n t) ≡ k → planRefuses n t values cares ≡ firstOf (tableConditions n t)
+      go zero e = let most = code-pairs-most n (accepted n t e .to) in sym (refuses-none e (omega (arith, most, v)) (omega (arith, most, w))) ∙ sym e
+      go (suc k) e = sym (refuses-table (suc k) (sym e) (λ z. omega arith)) ∙ sym e
 
 -- what is known where nothing is refused
 pub record Plannable (n : ℕ) (t : List ℕ) (values cares : ℕ) : Type 0 where

@@ -1,17 +1,23 @@
 -- Demand 3's sentence about the arrays, and document 02's about how many rows they hold: what follows from Plan's promise for the first places of both,
--- as many as the row count returned; and that Plan asks for no place too many. `proofs/Theorems.antt` proves both. Assumes nothing.
+-- as many as the row count returned; and that Plan asks for no place too many. `proofs/Theorems.antt` proves both. Before them, which lists Plan may
+-- write, for calls and programs that name one. Assumes nothing.
 use mathlib.Core.Path.{_≡_}
 use mathlib.Core.Bool.{false}
 use mathlib.Core.List.{List, map}
 use Prim.Native.Nat.{ℕ, _-_, _^_, _≤_}
 use lib.Dec.{T}
 use lib.ListN.{length, drop}
-use Rattle.cube.specs.Words.{firstRows, coverLiterals, numberOf}
+use Rattle.cube.specs.Words.{Cover, firstRows, coverLiterals, numberOf}
 use Rattle.cube.specs.Calls.{badWidth}
 use Rattle.cube.specs.Minimum.{Minimum, oddOnes}
 use Rattle.plan.specs.Plan.{planPlaces, planRefuses, ascending, Plans}
 use Rattle.plan.specs.declared.Planned.{Planned}
 use Rattle.plan.specs.declared.Planned.the-variants.{Rows}
+
+-- Plan may write this list for a table of n variables
+pub record MayWrite (n : ℕ) (t : List ℕ) (list : Cover) : Type 0 where
+  pub minimum : Minimum n t list
+  pub is-ascending : T (ascending (map (numberOf n) list))
 
 -- "They hold a list": the arrays before and after a call, and the counts that it returned
 pub record Held (n : ℕ) (t values cares values′ cares′ : List ℕ) (rows bits : ℕ) : Type 0 where

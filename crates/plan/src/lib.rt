@@ -113,7 +113,7 @@ fn shortest(n: usize, table: &[u8]) -> CubeList
 }
 
 // What Plan refuses: 1, 2, 3, 4, or 0 where none of these holds.
-fn plan_refusal(n: usize, table: &[u8], values: usize, cares: usize) -> u8
+pub fn plan_refusal(n: usize, table: &[u8], values: usize, cares: usize) -> u8
     ensures { λ r. ⌜ r ≡ planRefuses n (now (table .entry)) values cares ⌝ }
 {
     let k = tables::table_refusal(n, table);

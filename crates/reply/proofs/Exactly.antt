@@ -10,14 +10,14 @@ use Rattle.cube.specs.Cases.{tableOf, Holds, case-f, cases}
 use Rattle.cube.proofs.Cases.{all-cases}
 use Rattle.cube.proofs.Minimum.{shortest}
 use Rattle.plan.specs.Plan.{ascendsFrom}
+use Rattle.plan.specs.Theorems.{MayWrite}
+use Rattle.plan.proofs.Sole.{all-primes}
 use Rattle.text.specs.Characters.{bytes}
 use Rattle.text.specs.Input.{read, readRun}
 use Rattle.text.specs.Output.{outputOf}
 use Rattle.text.specs.Theorems.{exampleList}
 use Rattle.text.proofs.Examples.{examples}
-use Rattle.reply.specs.Reply.{MayWrite}
 use Rattle.reply.specs.Theorems.{GivesExactly}
-use Rattle.reply.proofs.Sole.{all-primes}
 
 holds-f : Holds case-f
 unfolding cases

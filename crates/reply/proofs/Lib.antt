@@ -1,4 +1,3 @@
--- What is printed; lists that hold all primes; document 01's example.
+-- What is printed for Plan's answer, and document 01's example.
 pub mod Printed
-pub mod Sole
 pub mod Exactly

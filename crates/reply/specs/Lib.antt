@@ -1,4 +1,3 @@
--- What is printed for a whole input; document 01's example; what is printed on the way.
+-- What is printed for a whole input, and document 01's example.
 pub mod Reply
 pub mod Theorems
-pub mod Steps

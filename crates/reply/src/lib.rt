@@ -8,14 +8,15 @@ use text::input::Reading;
 use text::input::Text;
 ghost use Prim.Native.Nat.{_≤_};
 ghost use lib.ListN.{length};
-ghost use Rattle.text.specs.Steps.{Room, mostOutput};
-ghost use Rattle.reply.specs.Reply.{PrintsInput};
-ghost use Rattle.reply.specs.Steps.{PrintsTable, PrintsState};
+ghost use Rattle.plan.specs.Theorems.{MayWrite};
+ghost use Rattle.text.specs.Output.{rowsText, PrintsInput};
+ghost use Rattle.text.specs.Steps.{Room, mostOutput, PrintsTable, PrintsState};
+ghost use Rattle.reply.specs.Reply.{OutputFor};
 
 // What is printed for a table of n variables.
 fn table(n: usize, cells: &[u8], out: &mut [u8]) -> usize
     requires { ⌜ mostOutput ≤ length (now out) ⌝ }
-    ensures { λ r. ⌜ PrintsTable n (now (cells .entry)) (now (out .entry)) (now (out .exit)) r ⌝ }
+    ensures { λ r. ⌜ PrintsTable rowsText MayWrite n (now (cells .entry)) (now (out .entry)) (now (out .exit)) r ⌝ }
 {
     let mut values = [0u8; MOST_CODE_PAIRS];
     let mut cares = [0u8; MOST_CODE_PAIRS];
@@ -28,7 +29,7 @@ fn table(n: usize, cells: &[u8], out: &mut [u8]) -> usize
 // What is printed at the end of the input, for what was read and the cells that were kept. Returns the length.
 pub fn reply(reading: Reading, cells: &[u8], out: &mut [u8]) -> usize
     requires { ⌜ Room reading (now cells) × (mostOutput ≤ length (now out)) ⌝ }
-    ensures { λ r. ⌜ PrintsState reading (now (cells .entry)) (now (out .entry)) (now (out .exit)) r ⌝ }
+    ensures { λ r. ⌜ PrintsState rowsText MayWrite reading (now (cells .entry)) (now (out .entry)) (now (out .exit)) r ⌝ }
 {
     match text::input::close(reading) {
         Text::Table(n, count) => table(n, &cells[..count], out),
@@ -39,7 +40,7 @@ pub fn reply(reading: Reading, cells: &[u8], out: &mut [u8]) -> usize
 // What is printed for a whole input. Returns the length.
 pub fn whole(input: &[u8], out: &mut [u8]) -> usize
     requires { ⌜ mostOutput ≤ length (now out) ⌝ }
-    ensures { λ r. ⌜ PrintsInput (now (input .entry)) (now (out .entry)) (now (out .exit)) r ⌝ }
+    ensures { λ r. ⌜ PrintsInput OutputFor (now (input .entry)) (now (out .entry)) (now (out .exit)) r ⌝ }
 {
     let mut cells = [0u8; MOST_CELLS];
     let reading = text::input::feed(Reading::Start, &mut cells, input);

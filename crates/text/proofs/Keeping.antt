@@ -1,5 +1,5 @@
 -- The cells that are kept are the whole run, or there is one more than any table has: then both are refused by their width or their length.
--- So the program prints for the cells that are kept what it prints for the whole input. Assumes nothing.
+-- So a program prints for the cells that are kept what it prints for the whole input. Assumes nothing.
 use mathlib.Core.Path.{_≡_, refl, sym, ap, _∙_}
 use mathlib.Core.Logic.{⊎-elim}
 use mathlib.Core.Bool.{Bool, true, false, cond, not}
@@ -14,7 +14,7 @@ use Rattle.cube.specs.Calls.{widest, badWidth, badLength, badCell, Condition, w
 use Rattle.numbers.proofs.Bools.{lt-or-le}
 use Rattle.cube.proofs.Calls.{width-to, codes-most, first-holds, accepted}
 use Rattle.text.specs.Input.{Table, read}
-use Rattle.text.specs.Output.{tableText, printed, outputOf}
+use Rattle.text.specs.Output.{tableText, printed, outputBy}
 use Rattle.text.specs.Steps.{mostCells, keep, keptOf, atStart, fed, closed}
 use Rattle.text.proofs.Stepping.{stepping}
 
@@ -31,7 +31,7 @@ long-refused n t rest l = go (badWidth n) refl
     go true e = refl
     go false e = by-length e
 
--- Plan, whose further conditions are the rest, refuses the cells that are kept exactly as it refuses the whole run; where the table is not refused,
+-- a call whose further conditions are the rest refuses the cells that are kept exactly as it refuses the whole run; where the table is not refused,
 -- they are the whole run
 pub record Keeping (n : ℕ) (cells : List ℕ) : Type 0 where
   pub refusal : (rest : List Condition) → firstOf (tableConditions n (keep cells) ++ rest) ≡ firstOf (tableConditions n cells ++ rest)
@@ -51,10 +51,10 @@ keeping n cells = ⊎-elim long short (lt-or-le mostCells (length cells))
       whole = λ e. let a = accepted n cells e in absurd (omega (arith, a .cells, codes-most n (a .to)));
     }
 
--- what is printed for the cells that are kept is what is printed for the whole input
-pub same-output : (input : List ℕ) (list : Cover) → printed (closed (fed atStart input)) list ≡ outputOf input list
-same-output input list = ap (λ (r : Answer Table). printed r list) (stepping input) ∙ go (read input)
+-- what is printed for the cells that are kept is what is printed for the whole input, whatever way lists are shown
+pub same-output : (shown : ℕ → Cover → List ℕ) (input : List ℕ) (list : Cover) → printed shown (closed (fed atStart input)) list ≡ outputBy shown input list
+same-output shown input list = ap (λ (r : Answer Table). printed shown r list) (stepping input) ∙ go (read input)
   where
-    go : (r : Answer Table) → printed (keptOf r) list ≡ printed r list
+    go : (r : Answer Table) → printed shown (keptOf r) list ≡ printed shown r list
     go (refuses k) = refl
-    go (gives t) = ap (λ (k : ℕ). tableText k (t .width) list) (keeping (t .width) (t .cells) .refusal [])
+    go (gives t) = ap (λ (k : ℕ). tableText shown k (t .width) list) (keeping (t .width) (t .cells) .refusal [])

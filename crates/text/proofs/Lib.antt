@@ -1,4 +1,4 @@
--- The grammar, stepping and keeping of the input; decimals, lines and examples of the output.
+-- The grammar, stepping and keeping of the input; decimals, lines and examples of the output; and the replies of a program.
 pub mod Grammar
 pub mod Stepping
 pub mod Keeping
@@ -6,3 +6,4 @@ pub mod Readings
 pub mod Decimals
 pub mod Lines
 pub mod Examples
+pub mod Replies

@@ -1,4 +1,4 @@
--- The input of the program `rows`: which texts are in form, and what they say. `InForm` is document 01's sentence, and `read` computes it;
+-- The input of the programs: which texts are in form, and what they say. `InForm` is document 01's sentence, and `read` computes it;
 -- `Theorems` ties the two together. Assumes nothing.
 use mathlib.Core.Path.{_≡_}
 use Prim.Native.Nat.{ℕ, _-_, _<_}

@@ -1,5 +1,5 @@
--- What the program `rows` prints. Which of several equally good lists Plan writes is left open, so the list is a parameter; the rest is given by the
--- input. Assumes nothing.
+-- What a program prints for a table on its input, whatever way it shows a list; and the way in which `rows` does. Which of several equally good lists
+-- is written is left open, so the list is a parameter; the rest is given by the input. Assumes nothing.
 use mathlib.Core.Path.{_≡_}
 use Prim.Native.Nat.{ℕ, zero, suc, _/_, _%_}
 use mathlib.Core.Bool.{cond}
@@ -47,21 +47,43 @@ refused k = bytes "refused " ++ inDecimal k ++ (lineFeed ∷ [])
 abbrev pub listText : ℕ → Cover → ℕ → ℕ → List ℕ
 listText n list rows bits = listLines n list ++ totalsLine rows bits
 
--- what is printed for a table: the refusal by Plan, whose two arrays are long enough, or the list and its two counts
-abbrev pub tableText : ℕ → ℕ → Cover → List ℕ
-tableText zero n list = listText n list (length list) (coverLiterals n list)
-tableText (suc k) n list = refused (suc k)
+-- what a program prints for a table: the number that a call whose arrays are long enough refuses it with, or a list, shown in the program's way
+abbrev pub tableText : (ℕ → Cover → List ℕ) → ℕ → ℕ → Cover → List ℕ
+tableText shown zero n list = shown n list
+tableText shown (suc k) n list = refused (suc k)
 
 -- "Other text prints `refused 9` [..]; otherwise a refusal by Plan prints `refused K`": what is printed for what a text says
-abbrev pub printed : Answer Table → Cover → List ℕ
-printed (refuses k) list = refused k
-printed (gives t) list = tableText (firstOf (tableConditions (t .width) (t .cells))) (t .width) list
+abbrev pub printed : (ℕ → Cover → List ℕ) → Answer Table → Cover → List ℕ
+printed shown (refuses k) list = refused k
+printed shown (gives t) list = tableText shown (firstOf (tableConditions (t .width) (t .cells))) (t .width) list
 
--- the whole output for the whole input, where Plan writes this list
+-- the whole output for the whole input, of a program that shows lists in this way, where this list is written
+abbrev pub outputBy : (ℕ → Cover → List ℕ) → List ℕ → Cover → List ℕ
+outputBy shown input list = printed shown (read input) list
+
+-- `rows` shows a list by its lines and its two counts
+abbrev pub rowsText : ℕ → Cover → List ℕ
+rowsText n list = listText n list (length list) (coverLiterals n list)
+
+-- the whole output of `rows` for the whole input, where Plan writes this list
 abbrev pub outputOf : List ℕ → Cover → List ℕ
-outputOf input list = printed (read input) list
+outputOf input list = outputBy rowsText input list
+
+-- the text is the whole output for the whole input, however long its run is, of a program that shows lists in this way and may write those of which May
+-- is true
+pub record OutputBy (shown : ℕ → Cover → List ℕ) (May : ℕ → List ℕ → Cover → Type 0) (input text : List ℕ) : Type 0 where
+  -- left open: which of several equally good lists it is
+  pub list : Cover
+  pub is-written : (t : Table) → read input ≡ gives t → firstOf (tableConditions (t .width) (t .cells)) ≡ 0 → May (t .width) (t .cells) list
+  pub is-output : text ≡ outputBy shown input list
 
 -- a text is at the front of a lent buffer, and the answer is its length; what follows it is unchanged
 pub record Prints (text old new : List ℕ) (r : ℕ) : Type 0 where
   pub answer : r ≡ length text
   pub places : new ≡ written 0 text old
+
+-- the output of a program for an input stands at the front of a lent buffer
+pub record PrintsInput (Output : List ℕ → List ℕ → Type 0) (input old new : List ℕ) (r : ℕ) : Type 0 where
+  pub text : List ℕ
+  pub output : Output input text
+  pub prints : Prints text old new r

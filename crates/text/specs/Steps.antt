@@ -1,14 +1,16 @@
 -- What the functions of `text` promise, step by step: the grammar a byte at a time, the cells that are kept in a lent buffer, and room for what
--- is printed. No promise of the program cites it. Assumes nothing.
+-- is printed; and what the steps to a program's output promise. No promise of a program cites it. Assumes nothing.
 use mathlib.Core.Path.{_≡_}
 use Prim.Native.Nat.{ℕ, _+_, _-_, _*_, _^_, _≤_}
 use mathlib.Core.Bool.{cond}
 use mathlib.Core.List.{List, [], _∷_, _++_}
 use lib.Dec.{eqb}
 use lib.ListN.{length, take, drop}
-use Rattle.cube.specs.Calls.{widest, Answer, refuses, gives}
+use Rattle.cube.specs.Words.{Cover}
+use Rattle.cube.specs.Calls.{widest, firstOf, tableConditions, Answer, refuses, gives}
 use Rattle.text.specs.Characters.{bytes, lineFeed}
 use Rattle.text.specs.Input.{Table, notInForm, isDigit, widthOf, isCell, cellOf}
+use Rattle.text.specs.Output.{tableText, printed, Prints}
 use Rattle.text.specs.declared.input.Reading.{Reading}
 use Rattle.text.specs.declared.input.Reading.the-variants.{Start, Width, Run, End, Wrong}
 use Rattle.text.specs.declared.input.Text.{Text}
@@ -129,3 +131,18 @@ pub record Printable (n : ℕ) (values cares : List ℕ) (count : ℕ) (out : Li
   pub cares-long : count ≤ length cares
   pub few : count ≤ 2 ^ (widest - 1)
   pub room : mostOutput ≤ length out
+
+-- ---- the steps to the output of a program that shows lists in this way and may write those of which May is true
+
+-- what is printed for a table: its refusal, or a list
+pub record PrintsTable (shown : ℕ → Cover → List ℕ) (May : ℕ → List ℕ → Cover → Type 0) (n : ℕ) (t old new : List ℕ) (r : ℕ) : Type 0 where
+  pub list : Cover
+  pub is-written : firstOf (tableConditions n t) ≡ 0 → May n t list
+  pub prints : Prints (tableText shown (firstOf (tableConditions n t)) n list) old new r
+
+-- the same for what was read, at the end of the input
+pub record PrintsState (shown : ℕ → Cover → List ℕ) (May : ℕ → List ℕ → Cover → Type 0) (reading : Reading) (cells old new : List ℕ) (r : ℕ) : Type 0 where
+  pub list : Cover
+  pub is-written : (t : Table) → closed (stateOf reading cells) ≡ gives t → firstOf (tableConditions (t .width) (t .cells)) ≡ 0
+      → May (t .width) (t .cells) list
+  pub prints : Prints (printed shown (closed (stateOf reading cells)) list) old new r

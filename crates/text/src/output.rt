@@ -28,12 +28,19 @@ fn word(text: &[u8], out: &mut [u8], at: usize) -> usize
     at + i
 }
 
-fn digit(d: usize, out: &mut [u8], at: usize) -> usize
+pub fn byte(b: u8, out: &mut [u8], at: usize) -> usize
+    requires { ⌜ at < length (now out) ⌝ }
+    ensures { λ r. ⌜ Puts (b ∷ []) (now (out .entry)) at (now (out .exit)) r ⌝ }
+{
+    out[at] = b;
+    at + 1
+}
+
+pub fn digit(d: usize, out: &mut [u8], at: usize) -> usize
     requires { ⌜ (d < 10) × (at < length (now out)) ⌝ }
     ensures { λ r. ⌜ Puts (digitCharacter d ∷ []) (now (out .entry)) at (now (out .exit)) r ⌝ }
 {
-    out[at] = b'0' + d as u8;
-    at + 1
+    byte(b'0' + d as u8, out, at)
 }
 
 // The digits of x: those of x / 10 and then the last.
@@ -57,12 +64,11 @@ fn number(text: &[u8], x: usize, out: &mut [u8], at: usize) -> usize
     decimal(x, out, next)
 }
 
-fn line_feed(out: &mut [u8], at: usize) -> usize
+pub fn line_feed(out: &mut [u8], at: usize) -> usize
     requires { ⌜ at < length (now out) ⌝ }
     ensures { λ r. ⌜ Puts (lineFeed ∷ []) (now (out .entry)) at (now (out .exit)) r ⌝ }
 {
-    out[at] = b'\n';
-    at + 1
+    byte(b'\n', out, at)
 }
 
 // The character of variable xk in the line of a row.

@@ -6,7 +6,7 @@ use borrow.Author.Needs.{needs}
 use borrow.Table.Elements.{length-take-le}
 use Rattle.text.specs.Steps.{cellsKept, textAnswer, tableCells}
 use Rattle.text.specs.declared.input.Text.{Text}
-use Rattle.reply.proofs.Printed.{table-said, refusal-said}
+use Rattle.text.proofs.Replies.{table-said, refusal-said}
 use Rattle.reply.proofs.reply.Statement.{statement}
 use Rattle.reply.proofs.reply.Tie as tie
 

@@ -1,6 +1,6 @@
 -- `reply::whole` meets its contract: the bytes printed are those of the definition over the whole input. Assumes nothing.
 use borrow.Author.Needs.{needs}
-use Rattle.reply.proofs.Printed.{input-said}
+use Rattle.text.proofs.Replies.{input-said}
 use Rattle.reply.proofs.whole.Statement.{statement}
 use Rattle.reply.proofs.whole.Tie as tie
 

@@ -1,6 +1,6 @@
 -- `rows::answer` meets its contract: what is printed for the state that was read is what is printed for the whole input. Assumes nothing.
 use borrow.Author.Needs.{needs}
-use Rattle.reply.proofs.Printed.{input-said}
+use Rattle.streams.proofs.Outputs.{read-printed}
 use Rattle.rows.proofs.answer.Statement.{statement}
 use Rattle.rows.proofs.answer.Tie as tie
 
@@ -20,9 +20,7 @@ same-length : tie.Need-same-length
 same-length c = search needs
 
 returns : tie.Need-returns
-returns c =
-    let read = c .before .before .before .before .before .before .read-all .ensures in
-    record { input = read .input; prints = input-said (read .input) _ _ _ _ _ (read .state) (c .before .before .reply .ensures) }
+returns c = read-printed (c .before .before .before .before .before .before .read-all .ensures) (c .before .before .reply .ensures)
 
 pub answer-spec : {M : Type 1} → statement M
 answer-spec =

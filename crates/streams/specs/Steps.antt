@@ -1,4 +1,4 @@
--- What the steps of the program promise: one read, all reads, and the output in a buffer. No promise of the program cites it.
+-- What the steps of a program promise: one read, all reads, and the output in a buffer. No promise of a program cites it.
 -- Assumes nothing.
 use mathlib.Core.Path.{_≡_}
 use mathlib.Core.Bool.{Bool, true, false}
@@ -6,11 +6,11 @@ use mathlib.Core.List.{List}
 use Prim.Native.Nat.{ℕ, zero, suc}
 use lib.IntN.{ℤ, pos, negsuc}
 use lib.ListN.{take}
+use Rattle.text.specs.Output.{PrintsInput}
 use Rattle.text.specs.Steps.{State, atStart, wrong, fed, stateOf, Room}
 use Rattle.text.specs.declared.input.Reading.{Reading}
-use Rattle.reply.specs.Reply.{PrintsInput}
-use Rattle.rows.specs.declared.Turn.{Turn}
-use Rattle.rows.specs.declared.Turn.the-variants.{More, Last}
+use Rattle.streams.specs.declared.Turn.{Turn}
+use Rattle.streams.specs.declared.Turn.the-variants.{More, Last}
 
 -- what was read so far, and whether it is all
 abbrev pub reached : Turn → Reading
@@ -44,7 +44,7 @@ pub record ReadAll (r : Reading) (cells : List ℕ) : Type 0 where
   pub state : stateOf r cells ≡ fed atStart input
   pub room : Room r cells
 
--- the output for some input is at the front of the buffer, and r is its length
-pub record PrintsRead (old new : List ℕ) (r : ℕ) : Type 0 where
+-- the output of a program for some input is at the front of the buffer, and r is its length
+pub record PrintsRead (Output : List ℕ → List ℕ → Type 0) (old new : List ℕ) (r : ℕ) : Type 0 where
   pub input : List ℕ
-  pub prints : PrintsInput input old new r
+  pub prints : PrintsInput Output input old new r

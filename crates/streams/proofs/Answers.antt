@@ -15,7 +15,7 @@ use borrow.Author.Tests.{ltb-true}
 use Rattle.io.specs.Counts.{clamped}
 use Rattle.libc.specs.Io.{Moved}
 use Rattle.text.specs.Steps.{State, wrong, fed}
-use Rattle.rows.specs.Steps.{endsInput, afterRead}
+use Rattle.streams.specs.Steps.{endsInput, afterRead}
 
 module _ (s : State) (piece : List ℕ) where
   failed : (z : ℤ) → ltZ z (pos 0) ≡ true → (wrong ≡ afterRead s z piece) × (true ≡ endsInput z)

@@ -1,3 +1,3 @@
 -- What is handed to standard output, and what the steps promise.
-pub mod Rows
+pub mod Streams
 pub mod Steps

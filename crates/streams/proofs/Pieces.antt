@@ -9,8 +9,8 @@ use Rattle.text.specs.Steps.{mostCells, State, atStart, fed, stateOf}
 use Rattle.text.specs.declared.input.Reading.{Reading}
 use Rattle.text.specs.declared.input.Reading.the-variants.{Start, Wrong}
 use Rattle.text.proofs.Stepping.{fed-append}
-use Rattle.rows.specs.Steps.{reached, afterRead, Turned, ReadAll}
-use Rattle.rows.specs.declared.Turn.{Turn}
+use Rattle.streams.specs.Steps.{reached, afterRead, Turned, ReadAll}
+use Rattle.streams.specs.declared.Turn.{Turn}
 
 pub read-none : (cells : List ℕ) → mostCells ≤ length cells → ReadAll Start cells
 unfolding fed

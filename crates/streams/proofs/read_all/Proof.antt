@@ -1,15 +1,15 @@
--- `rows::read_all` meets its contract: after each turn the state is the one after the pieces so far. Assumes nothing.
+-- `streams::read_all` meets its contract: after each turn the state is the one after the pieces so far. Assumes nothing.
 use borrow.Author.Needs.{needs}
 use mathlib.Core.Path.{_≡_, refl, sym, _∙_}
 use Prim.Native.Nat.{_<_}
 use native.Mathlib.Omega.{arith}
 use lib.ListN.{length}
-use Rattle.rows.specs.Steps.{reached, ReadAll}
-use Rattle.rows.specs.declared.Turn.{Turn}
-use Rattle.rows.proofs.Answers.{moved-bits}
-use Rattle.rows.proofs.Pieces.{read-none, read-wrong, read-more}
-use Rattle.rows.proofs.read_all.Statement.{statement}
-use Rattle.rows.proofs.read_all.Tie as tie
+use Rattle.streams.specs.Steps.{reached, ReadAll}
+use Rattle.streams.specs.declared.Turn.{Turn}
+use Rattle.streams.proofs.Answers.{moved-bits}
+use Rattle.streams.proofs.Pieces.{read-none, read-wrong, read-more}
+use Rattle.streams.proofs.read_all.Statement.{statement}
+use Rattle.streams.proofs.read_all.Tie as tie
 
 abbrev Inv-loop : tie.InvT-loop
 Inv-loop cells₀ piece₀ reading₀ turns₀ cells piece reading turns = (length cells ≡ length cells₀) × ReadAll reading cells × (65536 ≡ length piece)

@@ -1,13 +1,13 @@
--- `rows::take_turn` meets its contract: a case for each sign of the answer. Assumes nothing.
+-- `streams::take_turn` meets its contract: a case for each sign of the answer. Assumes nothing.
 use borrow.Author.Needs.{needs}
 use mathlib.Core.Path.{ap, _∙_}
 use Prim.Native.Nat.{ℕ}
 use native.Mathlib.Omega.{arith}
 use lib.ListN.{take}
 use Rattle.text.specs.Steps.{fed, stateOf}
-use Rattle.rows.proofs.Answers.{bits-failed, bits-at-end, bits-came}
-use Rattle.rows.proofs.take_turn.Statement.{statement}
-use Rattle.rows.proofs.take_turn.Tie as tie
+use Rattle.streams.proofs.Answers.{bits-failed, bits-at-end, bits-came}
+use Rattle.streams.proofs.take_turn.Statement.{statement}
+use Rattle.streams.proofs.take_turn.Tie as tie
 
 returns : tie.Need-returns
 returns c =

@@ -1,3 +1,0 @@
--- What the answer of a read says, and what the pieces make up.
-pub mod Answers
-pub mod Pieces
