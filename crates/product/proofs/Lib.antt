@@ -1,0 +1,7 @@
+-- Sums and products as they are written and read, what they mean, how long they are, worked examples, and a wrong line.
+pub mod Writing
+pub mod Reading
+pub mod Meaning
+pub mod Lengths
+pub mod Examples
+pub mod Refuted
