@@ -13,6 +13,7 @@
  *                 no one outside care
  *   list          rows in two arrays of the same length: row i is values[i] with cares[i]. It matches
  *                 a code when one of its rows does. It may be empty, and a row may be repeated
+ *   keep-out list a list that matches every barred code and no wanted one
  *   cube number   a formed row as one number, of n base-3 digits, the highest bit's first: 0 the bit
  *                 must be 0, 1 it must be 1, 2 it is not tested. From 0 to 3^n - 1
  *   prime         a cube that matches no barred code, such that no cube with fewer tested bits that
@@ -29,7 +30,7 @@
  * address will do. A call touches no other memory of the caller, keeps nothing and allocates nothing,
  * so threads may call at the same time, each with its own arrays.
  *
- * A call needs stack: allow rows_plan 1 MB. The most that was measured, on x86-64, is 287 KB for it,
+ * A call needs stack: allow rows_plan, rows_keep_out and rows_better 1 MB each. The most that was measured, on x86-64, is 287 KB for rows_plan,
  * 39 KB for rows_chart and 13 KB for the other calls; no bound is proved.
  *
  * Answers
@@ -119,6 +120,27 @@ int32_t rows_essentials(size_t n, const uint8_t *table, size_t table_len, uint16
  */
 int32_t rows_plan(size_t n, const uint8_t *table, size_t table_len, uint8_t *values, size_t values_len,
                   uint8_t *cares, size_t cares_len);
+
+/* A shortest keep-out list for the table, for chips that pass everything except what a row matches. It is
+ * written as rows_plan writes its list, with wanted and barred exchanged: it matches every barred code and
+ * no wanted one. No list that does so has fewer rows, and none with as many rows tests fewer bits.
+ *
+ * Answers and refuses as rows_plan does.
+ */
+int32_t rows_keep_out(size_t n, const uint8_t *table, size_t table_len, uint8_t *values, size_t values_len,
+                      uint8_t *cares, size_t cares_len);
+
+/* The better of the two: builds the list of rows_plan and that of rows_keep_out, and writes the one that
+ * has fewer rows, or as many rows and fewer tested bits. Where both counts are equal, that of rows_plan
+ * is written. Places after the list are as they were before the call.
+ *
+ * Answers 10000 * rows + tested bits of the list that is written, as rows_plan does, and 100000000 more if
+ * it is the keep-out list: answer / 100000000 is 0 or 1, and answer % 100000000 is what the call that
+ * writes this list answers.
+ * Refuses as rows_plan does.
+ */
+int32_t rows_better(size_t n, const uint8_t *table, size_t table_len, uint8_t *values, size_t values_len,
+                    uint8_t *cares, size_t cares_len);
 
 /* Whether a list matches every wanted code of the table and no barred one. Changes nothing.
  *

@@ -72,7 +72,7 @@ module _ (n : ℕ) (t values cares values′ cares′ : List ℕ) (rows bits : �
     counts-are : counts ≡ totalsOf n (p .list)
     counts-are = ap (λ (s : Said). s .totals) (told .1) ∙ ap (totalsOf n) (chosen .1)
 
-    plans : Plans n t values cares values′ cares′ (Rows rows bits)
+    pub plans : Plans n t values cares values′ cares′ (Rows rows bits)
     plans = record {
       list = p .list;
       minimum = λ z. p .is-list z .minimum;
@@ -99,7 +99,7 @@ module _ (n : ℕ) (t values cares values′ cares′ : List ℕ) (rows bits : �
     out-counts-are : counts ≡ totalsOf n (p .out)
     out-counts-are = ap (λ (s : Said). s .totals) (told-out .1) ∙ ap (totalsOf n) (chosen-out .1)
 
-    plans-out : PlansKeepOut n t values cares values′ cares′ (Rows rows bits)
+    pub plans-out : PlansKeepOut n t values cares values′ cares′ (Rows rows bits)
     plans-out = record {
       list = p .out;
       is-written = p .is-out;

@@ -1,6 +1,6 @@
 -- "For the installer, which is in C: [..] Plan's C answer is 10,000 × rows + tested bits; Check's is 0 right, 1 + code missed, 257 + code stray; both
--- answer minus the number when they refuse." The other calls answer in the same way: Spell 0, Read 100,000 × width + count, each of the rest a count.
--- Assumes nothing.
+-- answer minus the number when they refuse." The other calls answer in the same way: the keep-out call as Plan, the call that builds both lists with the kind
+-- added, Spell 0, Read 100,000 × width + count, each of the rest a count. Assumes nothing.
 use mathlib.Core.Path.{_≡_}
 use mathlib.Core.Bool.{cond}
 use mathlib.Core.List.{List}
@@ -12,6 +12,9 @@ use lib.ListN.{length}
 use Rattle.cube.specs.Calls.{mostRows, Answer, refuses, gives, answered, written}
 use Rattle.plan.specs.Plan.{Totals, planAnswer, Plans}
 use Rattle.plan.specs.declared.Planned.{Planned}
+use Rattle.keep_out.specs.KeepOut.{PlansKeepOut}
+use Rattle.better.specs.Better.{Kind, ordinary, keepOut, Said, builtAnswer, Builds}
+use Rattle.better.specs.declared.Built.{Built}
 use Rattle.checking.specs.Check.{Verdict, right, missed, stray, checkOf}
 use Rattle.listfile.specs.File.{oneByteCount, valuesIn, caresIn}
 use Rattle.listfile.specs.Read.{readRefuses, WidthAndCount, readOf}
@@ -54,6 +57,22 @@ planNumber (refuses k) = minus k
 abbrev pub readPlan : ℤ → Answer Totals
 readPlan (pos k) = gives (record { rows = k / 10000; bits = k % 10000 })
 readPlan (negsuc k) = refuses (suc k)
+
+-- which list, and its counts: 10,000 × rows + tested bits, and 100,000,000 more for the keep-out list
+abbrev pub saidNumber : Kind → Totals → ℕ
+saidNumber ordinary a = 10000 * a .rows + a .bits
+saidNumber keepOut a = 100000000 + (10000 * a .rows + a .bits)
+
+abbrev pub betterNumber : Answer Said → ℤ
+betterNumber (gives a) = pos (saidNumber (a .kind) (a .totals))
+betterNumber (refuses k) = minus k
+
+-- how the answer is read off the number: from 100,000,000 on it is the keep-out list, the counts are read off number % 100,000,000 as Plan's are, and what
+-- is below 0 is minus a refusal's number
+abbrev pub readBetter : ℤ → Answer Said
+readBetter (pos k) =
+    gives (record { kind = cond (ltb k 100000000) ordinary keepOut; totals = record { rows = k % 100000000 / 10000; bits = k % 100000000 % 10000 } })
+readBetter (negsuc k) = refuses (suc k)
 
 -- "0 right, 1 + code missed, 257 + code stray"
 abbrev pub checkNumber : Answer Verdict → ℤ
@@ -102,6 +121,20 @@ pub record PlansForC (n : ℕ) (t values cares values′ cares′ : List ℕ) (r
   pub plans : Plans n t values cares values′ cares′ planned
   pub number : r ≡ planNumber (planAnswer planned)
   pub read : readPlan r ≡ planAnswer planned
+
+-- What rows_keep_out promises: the same for the keep-out call.
+pub record KeepsOutForC (n : ℕ) (t values cares values′ cares′ : List ℕ) (r : ℤ) : Type 0 where
+  pub planned : Planned
+  pub plans : PlansKeepOut n t values cares values′ cares′ planned
+  pub number : r ≡ planNumber (planAnswer planned)
+  pub read : readPlan r ≡ planAnswer planned
+
+-- What rows_better promises: the promise of the call that builds both lists, of an answer whose number is returned, and which can be read back from the number.
+pub record BuildsForC (n : ℕ) (t values cares values′ cares′ : List ℕ) (r : ℤ) : Type 0 where
+  pub built : Built
+  pub builds : Builds n t values cares values′ cares′ built
+  pub number : r ≡ betterNumber (builtAnswer built)
+  pub read : readBetter r ≡ builtAnswer built
 
 -- What rows_read promises, refused input included: the number of Read's answer, the two arrays, that there are no more rows than a list may have, and that
 -- the answer can be read back from the number.

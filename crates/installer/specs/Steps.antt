@@ -5,6 +5,8 @@ use Rattle.cube.specs.declared.Counted.{Counted}
 use Rattle.cube.specs.declared.Counted.the-variants as counted
 use Rattle.plan.specs.declared.Planned.{Planned}
 use Rattle.plan.specs.declared.Planned.the-variants as planned
+use Rattle.better.specs.declared.Built.{Built}
+use Rattle.better.specs.declared.Built.the-variants as built
 use Rattle.listfile.specs.declared.ReadBack.{ReadBack}
 use Rattle.listfile.specs.declared.ReadBack.the-variants as readback
 
@@ -17,6 +19,12 @@ FewCounted (counted.Refused k) = Unit
 abbrev pub FewTotals : Planned → Type 0
 FewTotals (planned.Rows r b) = (r ≤ 2 ^ (widest - 1)) × (b ≤ 2 ^ (widest - 1) * widest)
 FewTotals (planned.Refused k) = Unit
+
+-- the same for the list of either kind
+abbrev pub FewBuilt : Built → Type 0
+FewBuilt (built.Ordinary r b) = FewTotals (planned.Rows r b)
+FewBuilt (built.KeepOut r b) = FewTotals (planned.Rows r b)
+FewBuilt (built.Refused k) = Unit
 
 -- a width and a row count in range
 abbrev pub FewRows : ReadBack → Type 0

@@ -3,6 +3,7 @@
 //
 //     rows_plan(2, table, 4, values, 2, cares, 2)      // for the table 0 1 1 1: 20002, two rows with two tested bits
 //     rows_primes(2, table, 4, cubes, 9)               // for the same table: 2, and the first places hold 5 (12) and 7 (21)
+use better::Built;
 use chart::ChartRow;
 use checking::Checked;
 use cube::Counted;
@@ -18,12 +19,13 @@ ghost use Rattle.primes.specs.Primes.{primesRefuses};
 ghost use Rattle.chart.specs.Rows.{chartOf};
 ghost use Rattle.spelling.specs.Spell.{spellOf};
 ghost use Rattle.plan.specs.Plan.{planAnswer};
+ghost use Rattle.better.specs.Better.{builtAnswer};
 ghost use Rattle.checking.specs.Check.{checkAnswer, checkOf};
 ghost use Rattle.listfile.specs.File.{oneByteCount, fileOf};
 ghost use Rattle.listfile.specs.Write.{writeRefuses};
 ghost use Rattle.listfile.specs.Read.{readAnswer};
-ghost use Rattle.installer.specs.Numbers.{minus, countNumber, planNumber, checkNumber, widthAndCountNumber, SpellsForC, ListedForC, PlansForC, ReadsForC};
-ghost use Rattle.installer.specs.Steps.{FewCounted, FewTotals, FewRows};
+ghost use Rattle.installer.specs.Numbers.{minus, countNumber, planNumber, betterNumber, checkNumber, widthAndCountNumber, SpellsForC, ListedForC, PlansForC, KeepsOutForC, BuildsForC, ReadsForC};
+ghost use Rattle.installer.specs.Steps.{FewCounted, FewTotals, FewBuilt, FewRows};
 
 // Minus the number of a refusal.
 fn refusal(k: u8) -> i32
@@ -51,6 +53,18 @@ fn plan_number(answer: Planned) -> i32
     match answer {
         Planned::Rows(rows, bits) => (10000 * rows + bits) as i32,
         Planned::Refused(k) => refusal(k),
+    }
+}
+
+// The number of the answer of the call that builds both lists.
+fn built_number(answer: Built) -> i32
+    requires { ⌜ FewBuilt answer ⌝ }
+    ensures { λ r. ⌜ r ≡ betterNumber (builtAnswer answer) ⌝ }
+{
+    match answer {
+        Built::Ordinary(rows, bits) => (10000 * rows + bits) as i32,
+        Built::KeepOut(rows, bits) => (100000000 + (10000 * rows + bits)) as i32,
+        Built::Refused(k) => refusal(k),
     }
 }
 
@@ -133,6 +147,23 @@ pub extern "C" fn rows_plan(n: usize, table: &[u8], values: &mut [u8], cares: &m
     ensures { λ r. ⌜ PlansForC n (now (table .entry)) (now (values .entry)) (now (cares .entry)) (now (values .exit)) (now (cares .exit)) r ⌝ }
 {
     plan_number(plan::plan(n, table, values, cares))
+}
+
+// The keep-out call for C: 10,000 × rows + tested bits of the list that is written, or minus the number of the refusal.
+#[no_mangle]
+pub extern "C" fn rows_keep_out(n: usize, table: &[u8], values: &mut [u8], cares: &mut [u8]) -> i32
+    ensures { λ r. ⌜ KeepsOutForC n (now (table .entry)) (now (values .entry)) (now (cares .entry)) (now (values .exit)) (now (cares .exit)) r ⌝ }
+{
+    plan_number(keep_out::keep_out(n, table, values, cares))
+}
+
+// The call that builds both lists for C: 10,000 × rows + tested bits of the list that is written, and 100,000,000 more if it is the keep-out list, or minus
+// the number of the refusal.
+#[no_mangle]
+pub extern "C" fn rows_better(n: usize, table: &[u8], values: &mut [u8], cares: &mut [u8]) -> i32
+    ensures { λ r. ⌜ BuildsForC n (now (table .entry)) (now (values .entry)) (now (cares .entry)) (now (values .exit)) (now (cares .exit)) r ⌝ }
+{
+    built_number(better::better(n, table, values, cares))
 }
 
 // Check for C: 0 right, 1 + code missed, 257 + code stray, or minus the number of the refusal.
