@@ -3,9 +3,10 @@
 
     bench/calls.py check            rows_check on lists of up to 255 rows
     bench/calls.py tables           rows_primes, rows_chart, rows_essentials and rows_plan on the tables of tests/tables
+    bench/calls.py lists            rows_plan, rows_keep_out and rows_better on the same tables, and on them with wanted and barred exchanged
     bench/calls.py NAME OTHER.a     beside another libinstaller.a, as an older one, and how many times as long that one takes
 
-It builds bench/check.c or bench/tables.c over each archive and runs the programs in turn, nine times each; the least time of each line counts. Run from the top of
+It builds bench/check.c, bench/tables.c or bench/lists.c over each archive and runs the programs in turn, nine times each; the least time of each line counts. Run from the top of
 the repository.
 """
 import os
@@ -16,7 +17,8 @@ OUT = "target/bench"
 OURS = "target/staticlib/libinstaller.a"
 
 # what each program is given: of the tables, how many times each file is gone through
-WORDS = {"check": [], "tables": ["tests/tables/hard6.txt", "20", "tests/tables/dense.txt", "20", "tests/tables/adversarial6.txt", "1"]}
+TABLES = ["tests/tables/hard6.txt", "20", "tests/tables/dense.txt", "20", "tests/tables/adversarial6.txt", "1"]
+WORDS = {"check": [], "tables": TABLES, "lists": TABLES}
 
 
 def run(words):
@@ -41,6 +43,6 @@ def main(name, *archives):
         print("%s: %.2f us%s" % (what, took / 1e3, others))
 
 
-if sys.argv[1:2] not in (["check"], ["tables"]) or len(sys.argv) > 3:
+if len(sys.argv) not in (2, 3) or sys.argv[1] not in WORDS:
     sys.exit(__doc__)
 main(*sys.argv[1:])

@@ -1,5 +1,5 @@
-/* Runs the calls for C on the tables of the files named, and writes how many bytes of stack rows_plan needed, how many rows_chart and how many the others. A
- * table is a line "width cells rows bits", the cells 0 barred, 1 wanted, - free. */
+/* Runs the calls for C on the tables of the files named, and writes how many bytes of stack rows_plan needed, how many rows_keep_out, rows_better
+ * and rows_chart, and how many the others. A table is a line "width cells rows bits", the cells 0 barred, 1 wanted, - free. */
 #include <stdint.h>
 #include <stdio.h>
 
@@ -39,6 +39,24 @@ static void accept(int32_t answer) {
 static void *plan_all(void *unused) {
     while (next()) {
         accept(rows_plan(width, table, cells, values, MOST_CODE_PAIRS, cares, MOST_CODE_PAIRS));
+    }
+    return unused;
+}
+
+/* On the table with wanted and barred exchanged, so that the search is that of rows_plan. */
+static void *keep_out_all(void *unused) {
+    while (next()) {
+        for (size_t c = 0; c < cells; c++) {
+            table[c] = "\1\0\2"[table[c]];
+        }
+        accept(rows_keep_out(width, table, cells, values, MOST_CODE_PAIRS, cares, MOST_CODE_PAIRS));
+    }
+    return unused;
+}
+
+static void *better_all(void *unused) {
+    while (next()) {
+        accept(rows_better(width, table, cells, values, MOST_CODE_PAIRS, cares, MOST_CODE_PAIRS));
     }
     return unused;
 }
@@ -85,6 +103,7 @@ static size_t most_of(void *(*work)(void *), int count, char **names) {
 }
 
 int main(int count, char **names) {
-    printf("%zu %zu %zu\n", most_of(plan_all, count, names), most_of(chart_all, count, names), most_of(all_others, count, names));
+    printf("%zu %zu %zu ", most_of(plan_all, count, names), most_of(keep_out_all, count, names), most_of(better_all, count, names));
+    printf("%zu %zu\n", most_of(chart_all, count, names), most_of(all_others, count, names));
     return 0;
 }

@@ -30,8 +30,9 @@
  * address will do. A call touches no other memory of the caller, keeps nothing and allocates nothing,
  * so threads may call at the same time, each with its own arrays.
  *
- * A call needs stack: allow rows_plan, rows_keep_out and rows_better 1 MB each. The most that was measured, on x86-64, is 287 KB for rows_plan,
- * 39 KB for rows_chart and 13 KB for the other calls; no bound is proved.
+ * A call needs stack: allow rows_plan, rows_keep_out and rows_better 1 MB. The most that was measured,
+ * on x86-64, is 287 KB for each of them, 39 KB for rows_chart and 13 KB for the other calls; no bound is
+ * proved.
  *
  * Answers
  *
