@@ -51,7 +51,7 @@ module _ (a b : Totals) where
       by-bits : a .rows ≡ b .rows → a .bits < b .bits
       by-bits r = ⊎-elim (λ l. l) (λ l. absurd (true≢false (sym e ∙ no-fewer-bits r l))) (lt-or-le (a .bits) (b .bits))
 
--- ---- a rival of the one is a rival of the other
+-- ---- one after the other
 
 module _ {rivalRows rivalBits rows bits otherRows otherBits : ℕ} where
   pub no-better-than-both : NoBetter rivalRows rivalBits rows bits → NoBetter rows bits otherRows otherBits → NoBetter rivalRows rivalBits otherRows otherBits

@@ -1,13 +1,13 @@
--- How the call ends. Both lists stand in arrays of their own, with their counts, and where the lent arrays are not refused the better one is copied into
+-- How the call ends. Both lists stand in arrays of their own, with their totals, and where the lent arrays are not refused the better one is copied into
 -- them. Assumes nothing.
-use mathlib.Core.Path.{_≡_, refl, sym, ap, ap₂, _∙_, subst}
+use mathlib.Core.Path.{_≡_, refl, sym, ap, ap₂, _∙_}
 use mathlib.Core.Bool.{Bool, true, false, cond, _||_}
 use mathlib.Core.List.{List, [], _∷_}
 use Prim.Native.Nat.{ℕ, zero, suc, _-_, _^_, _≤_}
 use native.Mathlib.Omega.{arith}
 use lib.ListN.{length, length-map, take}
 use Rattle.numbers.proofs.Fronts.{front-is}
-use Rattle.cube.specs.Words.{Row, Cover}
+use Rattle.cube.specs.Words.{Cover}
 use Rattle.cube.specs.Calls.{widest, short, when, tableConditions, gives, answered, written}
 use Rattle.cube.proofs.Calls.{none-in-front}
 use Rattle.plan.specs.Plan.{planPlaces, planRefuses, Totals, totalsOf, valuesOf, caresOf, Plans}
@@ -21,28 +21,28 @@ use Rattle.keep_out.specs.KeepOut.{MayKeepOut}
 use Rattle.keep_out.specs.Theorems.{exchanged}
 use Rattle.keep_out.proofs.Exchanging.{exchange}
 use Rattle.better.specs.Better.{ordinary, keepOut, Choice, isBetter, choose, saidOf, Builds}
-use Rattle.better.specs.Steps.{countsIn, Copyable}
+use Rattle.better.specs.Steps.{totalsIn, Copyable}
 use Rattle.better.specs.declared.Built.the-variants.{Ordinary, KeepOut, Refused}
 
--- a list that Plan may write stands in the first places of two arrays, and has these counts
-pub record StandsIn (n : ℕ) (t vs ws : List ℕ) (counts : Totals) : Type 0 where
+-- a list that Plan may write stands in the first places of two arrays, and has these totals
+pub record StandsIn (n : ℕ) (t vs ws : List ℕ) (totals : Totals) : Type 0 where
   pub list : Cover
   pub may : MayWrite n t list
-  pub counts-are : counts ≡ totalsOf n list
-  pub enough-values : counts .rows ≤ length vs
-  pub enough-cares : counts .rows ≤ length ws
-  pub few : counts .rows ≤ 2 ^ (n - 1)
-  pub values-are : take (counts .rows) vs ≡ valuesOf list
-  pub cares-are : take (counts .rows) ws ≡ caresOf list
+  pub totals-are : totals ≡ totalsOf n list
+  pub enough-values : totals .rows ≤ length vs
+  pub enough-cares : totals .rows ≤ length ws
+  pub few : totals .rows ≤ 2 ^ (n - 1)
+  pub values-are : take (totals .rows) vs ≡ valuesOf list
+  pub cares-are : take (totals .rows) ws ≡ caresOf list
 
 module _ (n : ℕ) (t values cares vs ws : List ℕ) (none : planRefuses n t (length values) (length cares) ≡ 0) where
   -- where Plan has not refused
-  pub stands : (r : Planned) → Plans n t values cares vs ws r → StandsIn n t vs ws (countsIn r)
+  pub stands : (r : Planned) → Plans n t values cares vs ws r → StandsIn n t vs ws (totalsIn r)
   stands (planned.Refused k) p = absurd (accepted-refused n t values cares vs ws k p none)
   stands (planned.Rows r b) p = record {
     list = p .list;
     may = record { minimum = p .minimum none; is-ascending = p .is-ascending none };
-    counts-are = ap₂ (λ (x y : ℕ). record { rows = x; bits = y }) rows (bits-is n t values cares vs ws r b p);
+    totals-are = ap₂ (λ (x y : ℕ). record { rows = x; bits = y }) rows (bits-is n t values cares vs ws r b p);
     enough-values = held .enough-values;
     enough-cares = held .enough-cares;
     few = held .few;
@@ -64,9 +64,9 @@ module _ (n : ℕ) (t values cares : List ℕ) where
   better-refused zero e h = absurd (h refl)
   better-refused (suc k) e h = record {
     list = [];
-    out = [];
+    excluding = [];
     is-list = λ z. absurd (h (e ∙ z));
-    is-out = λ z. absurd (h (e ∙ z));
+    is-excluding = λ z. absurd (h (e ∙ z));
     answer = ap (λ (i : ℕ). answered i (saidOf n (choose n [] []))) e;
     values-are = ap (λ (i : ℕ). written i (valuesOf (choose n [] [] .list)) values) e;
     cares-are = ap (λ (i : ℕ). written i (caresOf (choose n [] [] .list)) cares) e;
@@ -82,7 +82,7 @@ module _ (n : ℕ) (t values cares : List ℕ) where
         refuses-as-table n t v w a b
         ∙ none-in-front (tableConditions n t) (when (short (length values) (planPlaces n) || short (length cares) (planPlaces n)) 4 ∷ []) none
 
-    pub copyable : {u vs ws : List ℕ} {counts : Totals} → StandsIn n u vs ws counts → Copyable (counts .rows) vs ws values cares
+    pub copyable : {u vs ws : List ℕ} {totals : Totals} → StandsIn n u vs ws totals → Copyable (totals .rows) vs ws values cares
     copyable s = record {
       from-values = s .enough-values;
       from-cares = s .enough-cares;
@@ -97,22 +97,22 @@ module _ (n : ℕ) (t values cares : List ℕ) where
       may-keep-out : MayKeepOut n t (k .list)
       may-keep-out = record { minimum = exchange n t .lists (places .table .cells) (k .list) .1 (k .may .minimum); is-ascending = k .may .is-ascending }
 
-      -- the list that the counts choose
+      -- the list that the totals choose
       choice : (b : Bool) → isBetter o a ≡ b → both ≡ cond b (record { kind = keepOut; list = k .list }) (record { kind = ordinary; list = l .list })
       choice b e =
           ap (λ (x : Bool). cond x (record { kind = keepOut; list = k .list }) (record { kind = ordinary; list = l .list }))
-          (ap₂ isBetter (sym (k .counts-are)) (sym (l .counts-are)) ∙ e)
+          (ap₂ isBetter (sym (k .totals-are)) (sym (l .totals-are)) ∙ e)
 
       module _ (values′ cares′ : List ℕ) where
         pub keep-out-done : isBetter o a ≡ true → values′ ≡ written 0 (take (o .rows) ovs) values → cares′ ≡ written 0 (take (o .rows) ows) cares
             → Builds n t values cares values′ cares′ (KeepOut (o .rows) (o .bits))
         keep-out-done e v w = record {
           list = l .list;
-          out = k .list;
+          excluding = k .list;
           is-list = λ z. l .may;
-          is-out = λ z. may-keep-out;
+          is-excluding = λ z. may-keep-out;
           answer =
-              ap (λ (x : Totals). gives (record { kind = keepOut; totals = x })) (k .counts-are)
+              ap (λ (x : Totals). gives (record { kind = keepOut; totals = x })) (k .totals-are)
               ∙ ap₂ (λ (i : ℕ) (x : Choice). answered i (saidOf n x)) (sym none) (sym (choice true e));
           values-are = v ∙ ap₂ (λ (i : ℕ) (x : List ℕ). written i x values) (sym none) (k .values-are ∙ ap (λ (x : Choice). valuesOf (x .list)) (sym (choice true e)));
           cares-are = w ∙ ap₂ (λ (i : ℕ) (x : List ℕ). written i x cares) (sym none) (k .cares-are ∙ ap (λ (x : Choice). caresOf (x .list)) (sym (choice true e)));
@@ -122,11 +122,11 @@ module _ (n : ℕ) (t values cares : List ℕ) where
             → Builds n t values cares values′ cares′ (Ordinary (a .rows) (a .bits))
         ordinary-done e v w = record {
           list = l .list;
-          out = k .list;
+          excluding = k .list;
           is-list = λ z. l .may;
-          is-out = λ z. may-keep-out;
+          is-excluding = λ z. may-keep-out;
           answer =
-              ap (λ (x : Totals). gives (record { kind = ordinary; totals = x })) (l .counts-are)
+              ap (λ (x : Totals). gives (record { kind = ordinary; totals = x })) (l .totals-are)
               ∙ ap₂ (λ (i : ℕ) (x : Choice). answered i (saidOf n x)) (sym none) (sym (choice false e));
           values-are = v ∙ ap₂ (λ (i : ℕ) (x : List ℕ). written i x values) (sym none) (l .values-are ∙ ap (λ (x : Choice). valuesOf (x .list)) (sym (choice false e)));
           cares-are = w ∙ ap₂ (λ (i : ℕ) (x : List ℕ). written i x cares) (sym none) (l .cares-are ∙ ap (λ (x : Choice). caresOf (x .list)) (sym (choice false e)));

@@ -30,7 +30,7 @@ isBetter a b = ltb (a .rows) (b .rows) || (eqb (a .rows) (b .rows) && ltb (a .bi
 
 -- "writes the better: [..] then the ordinary one": the keep-out list where it is better
 abbrev pub choose : ℕ → Cover → Cover → Choice
-choose n list out = cond (isBetter (totalsOf n out) (totalsOf n list)) (record { kind = keepOut; list = out }) (record { kind = ordinary; list = list })
+choose n list excluding = cond (isBetter (totalsOf n excluding) (totalsOf n list)) (record { kind = keepOut; list = excluding }) (record { kind = ordinary; list = list })
 
 -- "It says which, with the two counts of the list written."
 pub record Said : Type 0 where
@@ -50,11 +50,11 @@ builtAnswer (built.Refused k) = refuses k
 pub record Builds (n : ℕ) (t values cares values′ cares′ : List ℕ) (r : Built) : Type 0 where
   -- "builds both lists". Left open: which of several equally good lists each of the two is
   pub list : Cover
-  pub out : Cover
+  pub excluding : Cover
   pub is-list : planRefuses n t (length values) (length cares) ≡ 0 → MayWrite n t list
-  pub is-out : planRefuses n t (length values) (length cares) ≡ 0 → MayKeepOut n t out
+  pub is-excluding : planRefuses n t (length values) (length cares) ≡ 0 → MayKeepOut n t excluding
   -- the answer is that of the list chosen; on refusal the number alone
-  pub answer : builtAnswer r ≡ answered (planRefuses n t (length values) (length cares)) (saidOf n (choose n list out))
+  pub answer : builtAnswer r ≡ answered (planRefuses n t (length values) (length cares)) (saidOf n (choose n list excluding))
   -- that list alone is written, from the first place of each array on; what follows, and on refusal all, is as it was before the call
-  pub values-are : values′ ≡ written (planRefuses n t (length values) (length cares)) (valuesOf (choose n list out .list)) values
-  pub cares-are : cares′ ≡ written (planRefuses n t (length values) (length cares)) (caresOf (choose n list out .list)) cares
+  pub values-are : values′ ≡ written (planRefuses n t (length values) (length cares)) (valuesOf (choose n list excluding .list)) values
+  pub cares-are : cares′ ≡ written (planRefuses n t (length values) (length cares)) (caresOf (choose n list excluding .list)) cares

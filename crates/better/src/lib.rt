@@ -6,11 +6,10 @@
 use plan::Planned;
 use spelling::MOST_CODE_PAIRS;
 ghost use mathlib.Core.Path.{_≡_};
-ghost use Prim.Native.Nat.{_≤_};
-ghost use lib.ListN.{length, take};
+ghost use lib.ListN.{take};
 ghost use Rattle.cube.specs.Calls.{written};
 ghost use Rattle.better.specs.Better.{isBetter, Builds};
-ghost use Rattle.better.specs.Steps.{countsIn, Copyable};
+ghost use Rattle.better.specs.Steps.{totalsIn, Copyable};
 
 // Which list is written, its number of rows and the sum of their tested bits, or the number of the refusal.
 pub enum Built {
@@ -19,24 +18,24 @@ pub enum Built {
     Refused(u8),
 }
 
-// The two counts of a list.
-struct Counts {
+// The totals of a list: its rows and their tested bits.
+struct Totals {
     rows: usize,
     bits: usize,
 }
 
-// The counts that a call has answered, where it has not refused.
-fn counts_in(answer: Planned) -> Counts
-    ensures { λ r. ⌜ record { rows = r .rows; bits = r .bits } ≡ countsIn answer ⌝ }
+// The totals that a call has answered, where it has not refused.
+fn totals_in(answer: Planned) -> Totals
+    ensures { λ r. ⌜ record { rows = r .rows; bits = r .bits } ≡ totalsIn answer ⌝ }
 {
     match answer {
-        Planned::Rows(rows, bits) => Counts { rows, bits },
-        Planned::Refused(_) => Counts { rows: 0, bits: 0 },
+        Planned::Rows(rows, bits) => Totals { rows, bits },
+        Planned::Refused(_) => Totals { rows: 0, bits: 0 },
     }
 }
 
-// Whether the first counts are those of a better list: fewer rows, or as many and fewer tested bits.
-fn is_better(a: Counts, b: Counts) -> bool
+// Whether the first totals are those of a better list: fewer rows, or as many and fewer tested bits.
+fn is_better(a: Totals, b: Totals) -> bool
     ensures { λ r. ⌜ r ≡ isBetter (record { rows = a .rows; bits = a .bits }) (record { rows = b .rows; bits = b .bits }) ⌝ }
 {
     if a.rows < b.rows {
@@ -72,13 +71,24 @@ pub fn better(n: usize, table: &[u8], values: &mut [u8], cares: &mut [u8]) -> Bu
     }
     let mut list_values = [0u8; MOST_CODE_PAIRS];
     let mut list_cares = [0u8; MOST_CODE_PAIRS];
-    let list = counts_in(plan::plan(n, table, &mut list_values, &mut list_cares));
-    let mut out_values = [0u8; MOST_CODE_PAIRS];
-    let mut out_cares = [0u8; MOST_CODE_PAIRS];
-    let out = counts_in(keep_out::keep_out(n, table, &mut out_values, &mut out_cares));
-    if is_better(out, list) {
-        copy_rows(out.rows, &out_values, &out_cares, values, cares);
-        return Built::KeepOut(out.rows, out.bits);
+    let list = totals_in(plan::plan(n, table, &mut list_values, &mut list_cares));
+    let mut excluding_values = [0u8; MOST_CODE_PAIRS];
+    let mut excluding_cares = [0u8; MOST_CODE_PAIRS];
+    let excluding = totals_in(keep_out::keep_out(
+        n,
+        table,
+        &mut excluding_values,
+        &mut excluding_cares,
+    ));
+    if is_better(excluding, list) {
+        copy_rows(
+            excluding.rows,
+            &excluding_values,
+            &excluding_cares,
+            values,
+            cares,
+        );
+        return Built::KeepOut(excluding.rows, excluding.bits);
     }
     copy_rows(list.rows, &list_values, &list_cares, values, cares);
     Built::Ordinary(list.rows, list.bits)

@@ -6,17 +6,16 @@ use mathlib.Core.List.{List}
 use Prim.Native.Nat.{ℕ, zero, suc, _+_, _*_, _/_, _%_}
 use native.Mathlib.Omega.{arith}
 use lib.ListN.{length}
-use lib.Dec.{ltb}
 use borrow.Author.Tests.{lt-ltb, le-ltb}
 use Rattle.cube.specs.Calls.{gives}
 use Rattle.cube.proofs.Calls.{answered-refuses}
 use Rattle.plan.specs.Plan.{planRefuses, Totals}
 use Rattle.plan.specs.declared.Planned.the-variants.{Rows}
-use Rattle.keep_out.proofs.Theorems.{to-plan}
-use Rattle.better.specs.Better.{Kind, ordinary, keepOut, choose, saidOf, builtAnswer, Builds}
+use Rattle.keep_out.proofs.Theorems.{plans-exchanged}
+use Rattle.better.specs.Better.{ordinary, keepOut, choose, saidOf, builtAnswer, Builds}
 use Rattle.better.specs.declared.Built.{Built}
 use Rattle.better.specs.declared.Built.the-variants.{Ordinary, KeepOut, Refused}
-use Rattle.better.proofs.Theorems.{plans, plans-out}
+use Rattle.better.proofs.Theorems.{plans, plans-keep-out}
 use Rattle.installer.specs.Numbers.{betterNumber, readBetter}
 use Rattle.installer.specs.Steps.{FewBuilt}
 use Rattle.installer.proofs.Totals.{few-totals}
@@ -25,7 +24,7 @@ module _ {n : ℕ} {t values cares values′ cares′ : List ℕ} where
   pub few-built : (r : Built) → Builds n t values cares values′ cares′ r → FewBuilt r
   few-built (Refused k) p = tt
   few-built (Ordinary rows bits) p = few-totals (Rows rows bits) (plans n t values cares values′ cares′ rows bits p)
-  few-built (KeepOut rows bits) p = few-totals (Rows rows bits) (to-plan n t values cares values′ cares′ (Rows rows bits) (plans-out n t values cares values′ cares′ rows bits p))
+  few-built (KeepOut rows bits) p = few-totals (Rows rows bits) (plans-exchanged n t values cares values′ cares′ (Rows rows bits) .0 (plans-keep-out n t values cares values′ cares′ rows bits p))
 
   -- the answer is read off its number
   pub built-back : (r : Built) → Builds n t values cares values′ cares′ r → readBetter (betterNumber (builtAnswer r)) ≡ builtAnswer r
@@ -44,5 +43,5 @@ module _ {n : ℕ} {t values cares values′ cares′ : List ℕ} where
       ap₂ (λ (b : Bool) (x : Totals). gives (record { kind = cond b ordinary keepOut; totals = x })) (le-ltb number 100000000 (omega arith))
       (ap₂ (λ (x y : ℕ). record { rows = x; bits = y }) rows-are bits-are)
   built-back (Refused zero) p =
-      let h = answered-refuses 0 (planRefuses n t (length values) (length cares)) (saidOf n (choose n (p .list) (p .out))) (p .answer) in absurd (h .1 (h .0))
+      let h = answered-refuses 0 (planRefuses n t (length values) (length cares)) (saidOf n (choose n (p .list) (p .excluding))) (p .answer) in absurd (h .1 (h .0))
   built-back (Refused (suc k)) p = refl

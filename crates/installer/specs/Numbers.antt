@@ -123,7 +123,7 @@ pub record PlansForC (n : ℕ) (t values cares values′ cares′ : List ℕ) (r
   pub read : readPlan r ≡ planAnswer planned
 
 -- What rows_keep_out promises: the same for the keep-out call.
-pub record KeepsOutForC (n : ℕ) (t values cares values′ cares′ : List ℕ) (r : ℤ) : Type 0 where
+pub record PlansKeepOutForC (n : ℕ) (t values cares values′ cares′ : List ℕ) (r : ℤ) : Type 0 where
   pub planned : Planned
   pub plans : PlansKeepOut n t values cares values′ cares′ planned
   pub number : r ≡ planNumber (planAnswer planned)

@@ -24,7 +24,7 @@ ghost use Rattle.checking.specs.Check.{checkAnswer, checkOf};
 ghost use Rattle.listfile.specs.File.{oneByteCount, fileOf};
 ghost use Rattle.listfile.specs.Write.{writeRefuses};
 ghost use Rattle.listfile.specs.Read.{readAnswer};
-ghost use Rattle.installer.specs.Numbers.{minus, countNumber, planNumber, betterNumber, checkNumber, widthAndCountNumber, SpellsForC, ListedForC, PlansForC, KeepsOutForC, BuildsForC, ReadsForC};
+ghost use Rattle.installer.specs.Numbers.{minus, countNumber, planNumber, betterNumber, checkNumber, widthAndCountNumber, SpellsForC, ListedForC, PlansForC, PlansKeepOutForC, BuildsForC, ReadsForC};
 ghost use Rattle.installer.specs.Steps.{FewCounted, FewTotals, FewBuilt, FewRows};
 
 // Minus the number of a refusal.
@@ -57,7 +57,7 @@ fn plan_number(answer: Planned) -> i32
 }
 
 // The number of the answer of the call that builds both lists.
-fn built_number(answer: Built) -> i32
+fn better_number(answer: Built) -> i32
     requires { ⌜ FewBuilt answer ⌝ }
     ensures { λ r. ⌜ r ≡ betterNumber (builtAnswer answer) ⌝ }
 {
@@ -152,7 +152,7 @@ pub extern "C" fn rows_plan(n: usize, table: &[u8], values: &mut [u8], cares: &m
 // The keep-out call for C: 10,000 × rows + tested bits of the list that is written, or minus the number of the refusal.
 #[no_mangle]
 pub extern "C" fn rows_keep_out(n: usize, table: &[u8], values: &mut [u8], cares: &mut [u8]) -> i32
-    ensures { λ r. ⌜ KeepsOutForC n (now (table .entry)) (now (values .entry)) (now (cares .entry)) (now (values .exit)) (now (cares .exit)) r ⌝ }
+    ensures { λ r. ⌜ PlansKeepOutForC n (now (table .entry)) (now (values .entry)) (now (cares .entry)) (now (values .exit)) (now (cares .exit)) r ⌝ }
 {
     plan_number(keep_out::keep_out(n, table, values, cares))
 }
@@ -163,7 +163,7 @@ pub extern "C" fn rows_keep_out(n: usize, table: &[u8], values: &mut [u8], cares
 pub extern "C" fn rows_better(n: usize, table: &[u8], values: &mut [u8], cares: &mut [u8]) -> i32
     ensures { λ r. ⌜ BuildsForC n (now (table .entry)) (now (values .entry)) (now (cares .entry)) (now (values .exit)) (now (cares .exit)) r ⌝ }
 {
-    built_number(better::better(n, table, values, cares))
+    better_number(better::better(n, table, values, cares))
 }
 
 // Check for C: 0 right, 1 + code missed, 257 + code stray, or minus the number of the refusal.

@@ -1,8 +1,7 @@
 -- What the exchange of wanted and barred codes does: to a cell, to what a table is refused for, and to the lists. A list keeps out the barred codes of a table
 -- exactly when it is right for the exchanged table, so the shortest ones are the same. Assumes nothing.
-use mathlib.Core.Path.{_≡_, refl, sym, ap, ap₂, _∙_, subst, subst⁻¹}
-use mathlib.Core.Bool.{Bool, not, _||_}
-use mathlib.Core.List.{List, [], _∷_, _++_, map}
+use mathlib.Core.Path.{_≡_, refl, sym, ap, _∙_, subst, subst⁻¹}
+use mathlib.Core.List.{List, [], _∷_}
 use Prim.Native.Nat.{ℕ, zero, suc, _^_, _<_}
 use native.Mathlib.Nat.{le-of-suc-le-suc}
 use native.Mathlib.Omega.{arith}
@@ -12,10 +11,10 @@ use borrow.Author.Tests.{ne-eqb}
 use Rattle.numbers.specs.Below.{some}
 use Rattle.numbers.proofs.Below.{some-same}
 use Rattle.cube.specs.Words.{cell, onSet, offSet, dontCare, Cover, allFormed, implements}
-use Rattle.cube.specs.Calls.{badWidth, badLength, badCell, short, when, firstOf}
+use Rattle.cube.specs.Calls.{badCell}
 use Rattle.cube.specs.Minimum.{Minimum}
 use Rattle.cube.proofs.Theorems.{implements-on, implements-off, implements-by}
-use Rattle.plan.specs.Plan.{planPlaces, planRefuses}
+use Rattle.plan.proofs.Refusals.{same-refusal}
 use Rattle.keep_out.specs.KeepOut.{KeepsOut, MinimumKeepOut}
 use Rattle.keep_out.specs.Theorems.{exchangedCell, exchanged, Exchange}
 
@@ -108,11 +107,6 @@ module _ (n : ℕ) (t : List ℕ) where
       least = λ rival k. m .least rival (k .formed) (keeps-right rival k);
     }
 
-  refusal : (values cares : ℕ) → planRefuses n (exchanged t) values cares ≡ planRefuses n t values cares
-  refusal values cares =
-      ap₂ (λ (m : ℕ) (b : Bool). firstOf (when (badWidth n) 1 ∷ when (not (eqb m (2 ^ n))) 2 ∷ when b 3 ∷ when (short values (planPlaces n) || short cares (planPlaces n)) 4 ∷ []))
-      (cells t) (bad t)
-
   pub exchange : Exchange n t
   exchange = record {
     cells = cells t;
@@ -120,6 +114,6 @@ module _ (n : ℕ) (t : List ℕ) where
     barred = barred t;
     free = free t;
     bad = bad t;
-    refusal = refusal;
+    refusal = same-refusal n (exchanged t) t (cells t) (bad t);
     lists = λ long list. (minimum-to long list, minimum-from long list);
   }

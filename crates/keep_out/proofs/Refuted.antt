@@ -1,5 +1,5 @@
--- Wrong answers of the keep-out call, each on a named table, whatever the arrays held: a list that keeps the same codes out is better than the one
--- answered, or no list with these counts keeps them out. Assumes nothing.
+-- Wrong answers of the keep-out call, each on a named table: a list that keeps the same codes out is better than the one answered, no list with these counts
+-- keeps them out, or the refusal is another one. Assumes nothing.
 use mathlib.Core.Path.{_≡_, refl, ap, subst₂}
 use mathlib.Core.Logic.{⊎-elim}
 use mathlib.Core.List.{List, [], _∷_}
@@ -17,13 +17,13 @@ use Rattle.plan.proofs.Answers.{refused-by}
 use Rattle.keep_out.specs.KeepOut.{KeepsOut, PlansKeepOut}
 use Rattle.keep_out.specs.Theorems.{exchanged}
 use Rattle.keep_out.proofs.Exchanging.{right-keeps}
-use Rattle.keep_out.proofs.Theorems.{to-plan, arrays-keep-out}
+use Rattle.keep_out.proofs.Theorems.{plans-exchanged, arrays-keep-out}
 
 -- no list that keeps the same codes out is better than the counts answered
 no-better : (n : ℕ) (t values cares values′ cares′ : List ℕ) (rows bits : ℕ) → PlansKeepOut n t values cares values′ cares′ (Rows rows bits) → (rival : Cover)
     → KeepsOut n t rival → NoBetter (length rival) (coverLiterals n rival) rows bits
 no-better n t values cares values′ cares′ rows bits p rival k =
-    let h = arrays-keep-out n t values cares values′ cares′ rows bits p in
+    let h = arrays-keep-out n t values cares values′ cares′ .counted rows bits p in
     subst₂ (λ (r b : ℕ). NoBetter (length rival) (coverLiterals n rival) r b) (h .held .row-count) (h .held .bit-count) (h .minimum .least rival k)
 
 -- 00 is barred, all others are wanted: "`2` and `0111`"
@@ -60,13 +60,13 @@ module _ (values cares values′ cares′ : List ℕ) where
   -- nothing written and zero rows
   pub no-rows : (bits : ℕ) → PlansKeepOut 1 (0 ∷ 1 ∷ []) values cares values′ cares′ (Rows 0 bits) → ⊥
   unfolding coverMatches rowsOf
-  no-rows bits p = arrays-keep-out 1 (0 ∷ 1 ∷ []) values cares values′ cares′ 0 bits p .minimum .keeps-out .every-barred 0 (lit< tt) tt
+  no-rows bits p = arrays-keep-out 1 (0 ∷ 1 ∷ []) values cares values′ cares′ .counted 0 bits p .minimum .keeps-out .every-barred 0 (lit< tt) tt
 
   -- 4 for arrays of any length, where a cell is 3
   pub four-before-three : PlansKeepOut 1 (3 ∷ 1 ∷ []) values cares values′ cares′ (Refused 4) → ⊥
   unfolding some badCell
   four-before-three p =
-      let z : _≡_ {A = ℕ} 3 4 = refused-by 1 (exchanged (3 ∷ 1 ∷ [])) values cares values′ cares′ 4 (to-plan 1 (3 ∷ 1 ∷ []) values cares values′ cares′ (Refused 4) p) in
+      let z : _≡_ {A = ℕ} 3 4 = refused-by 1 (exchanged (3 ∷ 1 ∷ [])) values cares values′ cares′ 4 (plans-exchanged 1 (3 ∷ 1 ∷ []) values cares values′ cares′ (Refused 4) .0 p) in
       omega arith
 
 -- a place written though the width is refused

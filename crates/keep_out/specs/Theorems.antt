@@ -45,6 +45,10 @@ pub record HeldKeepOut (n : ℕ) (t values cares values′ cares′ : List ℕ) 
   pub held : Held n (exchanged t) values cares values′ cares′ rows bits
   pub minimum : MinimumKeepOut n t (firstRows rows values′ cares′)
 
-abbrev pub ArraysKeepOut : ℕ → List ℕ → List ℕ → List ℕ → List ℕ → List ℕ → Type 0
-ArraysKeepOut n t values cares values′ cares′ =
-    (rows bits : ℕ) → PlansKeepOut n t values cares values′ cares′ (Rows rows bits) → HeldKeepOut n t values cares values′ cares′ rows bits
+-- what follows for a call, whatever the table and the arrays
+pub record ArraysKeepOut (n : ℕ) (t values cares values′ cares′ : List ℕ) : Type 0 where
+  -- where counts are returned, they are those of the list that the arrays hold
+  pub counted : (rows bits : ℕ) → PlansKeepOut n t values cares values′ cares′ (Rows rows bits) → HeldKeepOut n t values cares values′ cares′ rows bits
+  -- "For every accepted table": there are counts
+  pub accepted : (r : Planned) → planRefuses n t (length values) (length cares) ≡ 0 → PlansKeepOut n t values cares values′ cares′ r
+      → (rows : ℕ) × (bits : ℕ) × (r ≡ Rows rows bits)

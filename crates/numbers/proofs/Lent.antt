@@ -15,7 +15,7 @@ use borrow.Table.Elements.{map-app}
 use Rattle.numbers.specs.Below.{those}
 use Rattle.numbers.specs.Lent.{Puts}
 use Rattle.numbers.proofs.Below.{those-length}
-use Rattle.numbers.proofs.Fronts.{take-more}
+use Rattle.numbers.proofs.Fronts.{take-more, front-long, front-is}
 
 -- a run of stores and the run right after it
 pub sets-append : (l : List ℕ) (i : ℕ) (xs ys : List ℕ) → sets (sets l i xs) (i + length xs) ys ≡ sets l i (xs ++ ys)
@@ -30,19 +30,23 @@ sets-front xs old h = sets-eq xs old 0 (omega arith) ∙ ap (λ (i : ℕ). xs ++
 pub sets-at : (xs old : List ℕ) (i : ℕ) → length xs ≤ length old → i < length xs → getD (sets old 0 xs) i 0 ≡ getD xs i 0
 sets-at xs old i h l = ap (λ (l : List ℕ). getD l i 0) (sets-front xs old h) ∙ List·getD-append xs (drop (length xs) old) 0 i l
 
+-- a copy of a whole source into the front of a list
+pub copied : (src old : List ℕ) {new : List ℕ} → new ≡ take (length src) src ++ drop (length src) old → new ≡ src ++ drop (length src) old
+copied src old h = h ∙ ap (λ (l : List ℕ). l ++ drop (length src) old) (take-length src)
+
 -- a middle part that was lent and comes back with a copy of a source of its length: a run of stores
 pub put-copied : (a e : ℕ) (xs src part : List ℕ) → a + length src ≡ e → e ≤ length xs → part ≡ take (length src) src ++ drop (length src) (midOf a (e - a) xs)
     → putMid a (e - a) xs part ≡ sets xs a src
 put-copied a e xs src part s h d =
-    ap (λ (l : List ℕ). putMid a (e - a) xs l) copied ∙ ap (λ (l : List ℕ). take a xs ++ (src ++ l)) (post-is a e xs (omega arith))
+    ap (λ (l : List ℕ). putMid a (e - a) xs l) whole ∙ ap (λ (l : List ℕ). take a xs ++ (src ++ l)) (post-is a e xs (omega arith))
     ∙ sym (append-assoc (take a xs) src (drop e xs))
     ∙ sym (sets-eq src xs a (omega arith) ∙ ap (λ (i : ℕ). take a xs ++ src ++ drop i xs) s)
   where
     full : length (midOf a (e - a) xs) ≤ length src
     full = omega (arith, mid-len a e xs h)
 
-    copied : part ≡ src
-    copied = d ∙ ap₂ _++_ (take-length src) (drop-of-length-le (midOf a (e - a) xs) full) ∙ append-nil src
+    whole : part ≡ src
+    whole = copied src (midOf a (e - a) xs) d ∙ ap (λ (l : List ℕ). src ++ l) (drop-of-length-le (midOf a (e - a) xs) full) ∙ append-nil src
 
 -- ---- a list that is put into lent places
 
@@ -74,6 +78,14 @@ front-count {xs} p = p .behind ∙ zero-add (length xs)
 
 pub front-places : {xs old new : List ℕ} {next : ℕ} → Puts xs old 0 new next → length xs ≤ length old → new ≡ xs ++ drop (length xs) old
 front-places {xs} {old} p l = p .places ∙ sets-front xs old l
+
+-- and the first places, lent on, are the list
+module _ {xs old new : List ℕ} {next : ℕ} (p : Puts xs old 0 new next) (l : length xs ≤ length old) where
+  pub front-inside : next ≤ length new
+  front-inside = front-long xs old (front-count p) (front-places p l)
+
+  pub front-lent : take next new ≡ xs
+  front-lent = front-is xs old (front-count p) (front-places p l)
 
 -- the values of the first elements of a list, with one more element
 pub map-more : (f : ℕ → ℕ) (qs old : List ℕ) {new : List ℕ} (i x : ℕ) → i < length qs → Puts (map f (take i qs)) old 0 new i → x ≡ f (getD qs i 0)

@@ -1,11 +1,13 @@
 -- What Plan refuses: what the table is refused for, then 4 where either array is short, which an array with places for the widest list never is.
 -- Assumes nothing.
-use mathlib.Core.Path.{_≡_, refl, sym, _∙_}
-use mathlib.Core.Bool.{Bool, _||_}
-use mathlib.Core.List.{List}
+use mathlib.Core.Path.{_≡_, refl, sym, ap₂, _∙_}
+use mathlib.Core.Bool.{Bool, not, _||_}
+use mathlib.Core.List.{List, [], _∷_}
 use Prim.Native.Nat.{ℕ, zero, suc, _-_, _^_, _<_, _≤_}
 use native.Mathlib.Omega.{arith}
-use Rattle.cube.specs.Calls.{widest, short, firstOf, tableConditions}
+use lib.Dec.{eqb}
+use lib.ListN.{length}
+use Rattle.cube.specs.Calls.{widest, badWidth, badCell, short, when, firstOf, tableConditions}
 use Rattle.cube.proofs.Calls.{Accepted, accepted, code-pairs-most, last-before, last-holds, last-passes, last-none, first-short, second-short, neither-short, both-long}
 use Rattle.plan.specs.Plan.{planRefuses, planPlaces}
 
@@ -33,6 +35,11 @@ module _ (n : ℕ) (t : List ℕ) (values cares : ℕ) where
       go : (k : ℕ) → firstOf (tableConditions n t) ≡ k → planRefuses n t values cares ≡ firstOf (tableConditions n t)
       go zero e = let most = code-pairs-most n (accepted n t e .to) in sym (refuses-none e (omega (arith, most, v)) (omega (arith, most, w))) ∙ sym e
       go (suc k) e = sym (refuses-table (suc k) (sym e) (λ z. omega arith)) ∙ sym e
+
+-- tables of one length, both with or both without a cell that is none, are refused alike
+pub same-refusal : (n : ℕ) (t u : List ℕ) → length t ≡ length u → badCell t ≡ badCell u → (values cares : ℕ) → planRefuses n t values cares ≡ planRefuses n u values cares
+same-refusal n t u l b values cares =
+    ap₂ (λ (m : ℕ) (bad : Bool). firstOf (when (badWidth n) 1 ∷ when (not (eqb m (2 ^ n))) 2 ∷ when bad 3 ∷ when (is-short n t values cares) 4 ∷ [])) l b
 
 -- what is known where nothing is refused
 pub record Plannable (n : ℕ) (t : List ℕ) (values cares : ℕ) : Type 0 where

@@ -16,7 +16,8 @@ use Rattle.text.specs.Characters.{bytes, lineFeed}
 use Rattle.text.specs.Output.{inDecimal}
 use Rattle.text.proofs.Decimals.{decimals}
 use Rattle.product.specs.Product.{Sum, literalText, joinedText, sumText, sumsText, literalsOfDigit, literalsOfVariable, literalsFrom, rowSum, productOf, excludingText, excludingLine}
-use Rattle.product.specs.Steps.{mostVariables, textBehind, openText, jointAt, mostLine}
+use Rattle.text.specs.Steps.{mostVariables}
+use Rattle.product.specs.Steps.{textBehind, openText, jointAt, mostLine}
 use Rattle.product.proofs.Writing.{literals-more, open-longer, closed-length}
 
 module _ (k : ℕ) (l : k ≤ mostVariables) where

@@ -1,4 +1,4 @@
--- Sums and products as they are written and read, what they mean, how long they are, worked examples, and a wrong line.
+-- Sums and products as they are written and read, what they mean, how long they are, worked examples, and wrong lines.
 pub mod Writing
 pub mod Reading
 pub mod Meaning

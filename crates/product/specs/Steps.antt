@@ -8,11 +8,8 @@ use lib.Dec.{eqb}
 use lib.ListN.{length}
 use Rattle.cube.specs.Words.{firstRows}
 use Rattle.cube.specs.Calls.{widest}
+use Rattle.text.specs.Steps.{mostVariables}
 use Rattle.product.specs.Product.{Sum, literalText, joinedText, excludingLine}
-
--- the variables whose numbers have one digit: x1 to x9
-abbrev pub mostVariables : ℕ
-mostVariables = 9
 
 -- literals behind the character j, and each further one behind a `+`
 abbrev pub textBehind : ℕ → Sum → List ℕ
@@ -34,7 +31,7 @@ pub record PrintableLine (n : ℕ) (values cares : List ℕ) (count : ℕ) (out 
   pub cares-long : count ≤ length cares
   pub room : length (excludingLine n (firstRows count values cares)) ≤ length out
 
--- the longest line of a shortest list at the widest width: a bracket or plus sign, `x`, a digit and `'` for each literal, the last bracket of each sum,
+-- room for any line of a shortest list at the widest width: a bracket or plus sign, `x`, a digit and `'` for each literal, the last bracket of each sum,
 -- and the line feed
 abbrev pub mostLine : ℕ
 mostLine = (4 * widest + 1) * 2 ^ (widest - 1) + 1

@@ -2,7 +2,7 @@
 -- `Examples` of `proofs/`. Assumes nothing.
 use mathlib.Core.Path.{_≡_}
 use mathlib.Core.Logic.{_↔_}
-use mathlib.Core.Bool.{Bool, not}
+use mathlib.Core.Bool.{Bool, true, false, not}
 use mathlib.Core.List.{[], _∷_}
 use Prim.Native.Nat.{ℕ}
 use lib.Dec.{T}
@@ -28,3 +28,7 @@ pub record ProductExamples : Type 0 where
   -- "a row without tested bits prints `0`, an empty list `1`"
   pub no-bits : excludingLine 2 (record { value = 0; care = 0 } ∷ []) ≡ bytes "0\n"
   pub no-rows : excludingLine 2 [] ≡ bytes "1\n"
+  -- (x1+x2) is 0 under 00 and 1 under 01, and (x1'+x2) is 0 under 10
+  pub zero : TextValue 2 (bytes "(x1+x2)") 0 false
+  pub one : TextValue 2 (bytes "(x1+x2)") 1 true
+  pub complement : TextValue 2 (bytes "(x1'+x2)") 2 false

@@ -8,7 +8,7 @@ use lib.Dec.{eqb}
 use Rattle.cube.specs.Theorems.{bitOfVariable}
 use Rattle.product.specs.Product.{Literal, Sum, Product, productText}
 
--- a variable is its bit in the code, and `'` complements
+-- a variable, one of x1 to xn, is its bit in the code, and `'` complements
 abbrev pub literalValue : ℕ → ℕ → Literal → Bool
 literalValue n c l = cond (l .complemented) (not (eqb (bitOfVariable n (l .variable) c) 1)) (eqb (bitOfVariable n (l .variable) c) 1)
 

@@ -7,34 +7,16 @@ use text::output;
 ghost use mathlib.Core.Path.{_≡_};
 ghost use Prim.Native.Nat.{_+_, _≤_};
 ghost use lib.ListN.{length};
-ghost use Rattle.cube.specs.Words.{digitOf, firstRows};
-ghost use Rattle.cube.specs.Theorems.{bitOfVariable, Variable};
+ghost use Rattle.cube.specs.Words.{firstRows};
+ghost use Rattle.cube.specs.Theorems.{Variable};
 ghost use Rattle.numbers.specs.Lent.{Puts};
 ghost use Rattle.text.specs.Output.{Prints};
+ghost use Rattle.text.specs.Steps.{mostVariables};
 ghost use Rattle.product.specs.Product.{literalText, sumText, literalsOfVariable, rowSum, excludingText, excludingLine};
-ghost use Rattle.product.specs.Steps.{mostVariables, textBehind, jointAt, PrintableLine};
+ghost use Rattle.product.specs.Steps.{textBehind, jointAt, PrintableLine};
 
-// The longest line at the widest width: a sum of 25 characters for each pair of codes, and the line feed.
+// Room for any line at the widest width: a sum of 25 characters for each pair of codes, and the line feed.
 pub const MOST_LINE: usize = 25 * MOST_CODE_PAIRS + 1;
-
-// The bit of variable xk in a value or a care.
-fn bit(n: usize, k: usize, byte: u8) -> usize
-    requires { ⌜ (n ≤ mostVariables) × Variable n k ⌝ }
-    ensures { λ r. ⌜ r ≡ bitOfVariable n k byte ⌝ }
-{
-    byte as usize / (1 << (n - k)) % 2
-}
-
-// The digit of variable xk in a row: a tested 0, a tested 1, or 2 where it is not tested.
-fn digit(n: usize, k: usize, value: u8, care: u8) -> usize
-    requires { ⌜ (n ≤ mostVariables) × Variable n k ⌝ }
-    ensures { λ r. ⌜ r ≡ digitOf (bitOfVariable n k value) (bitOfVariable n k care) ⌝ }
-{
-    if bit(n, k, care) == 0 {
-        return 2;
-    }
-    bit(n, k, value)
-}
 
 // `xk`, or `xk'` where it is complemented.
 fn literal(k: usize, complemented: bool, out: &mut [u8], at: usize) -> usize
@@ -74,7 +56,7 @@ fn variable(
     ensures { λ r. ⌜ Puts (textBehind (jointAt start at) (literalsOfVariable n (record { value = value; care = care }) k))
         (now (out .entry)) at (now (out .exit)) r ⌝ }
 {
-    let d = digit(n, k, value, care);
+    let d = output::row_digit(n, k, value, care);
     if d == 2 {
         return at;
     }

@@ -46,8 +46,8 @@ module _ (n : ℕ) (t values cares values′ cares′ : List ℕ) (v : 2 ^ (wide
         list-printed n t old new r list table-accepted (record { minimum = held .minimum; is-ascending = held .is-ascending })
         (subst₂ (λ (x y : ℕ). Prints (listText n list x y) old new r) (sym (held .row-count)) (sym (held .bit-count)) q)
 
-  pub plan-refused : (k : ℕ) → Plans n t values cares values′ cares′ (Refused k) → (old new : List ℕ) (r : ℕ) → Prints (refused k) old new r
+  pub plan-refusal-printed : (k : ℕ) → Plans n t values cares values′ cares′ (Refused k) → (old new : List ℕ) (r : ℕ) → Prints (refused k) old new r
       → PrintsTable rowsText MayWrite n t old new r
-  plan-refused k p old new r q =
+  plan-refusal-printed k p old new r q =
       let number = refused-by n t values cares values′ cares′ k p in
       refusal-printed n t old new r k (sym refusal-is ∙ number) (λ z. accepted-refused n t values cares values′ cares′ k p (number ∙ z)) q

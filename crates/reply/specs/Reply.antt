@@ -2,8 +2,8 @@
 use mathlib.Core.List.{List}
 use Prim.Native.Nat.{ℕ}
 use Rattle.plan.specs.Theorems.{MayWrite}
-use Rattle.text.specs.Output.{rowsText, OutputBy}
+use Rattle.text.specs.Output.{rowsText, ProgramOutput}
 
 -- the text is the whole output of `rows` for the whole input, however long its run is
-abbrev pub OutputFor : List ℕ → List ℕ → Type 0
-OutputFor input text = OutputBy rowsText MayWrite input text
+abbrev pub RowsFor : List ℕ → List ℕ → Type 0
+RowsFor input text = ProgramOutput rowsText MayWrite input text

@@ -11,7 +11,7 @@ ghost use lib.ListN.{length};
 ghost use Rattle.plan.specs.Theorems.{MayWrite};
 ghost use Rattle.text.specs.Output.{rowsText, PrintsInput};
 ghost use Rattle.text.specs.Steps.{Room, mostOutput, PrintsTable, PrintsState};
-ghost use Rattle.reply.specs.Reply.{OutputFor};
+ghost use Rattle.reply.specs.Reply.{RowsFor};
 
 // What is printed for a table of n variables.
 fn table(n: usize, cells: &[u8], out: &mut [u8]) -> usize
@@ -40,7 +40,7 @@ pub fn reply(reading: Reading, cells: &[u8], out: &mut [u8]) -> usize
 // What is printed for a whole input. Returns the length.
 pub fn whole(input: &[u8], out: &mut [u8]) -> usize
     requires { ⌜ mostOutput ≤ length (now out) ⌝ }
-    ensures { λ r. ⌜ PrintsInput OutputFor (now (input .entry)) (now (out .entry)) (now (out .exit)) r ⌝ }
+    ensures { λ r. ⌜ PrintsInput RowsFor (now (input .entry)) (now (out .entry)) (now (out .exit)) r ⌝ }
 {
     let mut cells = [0u8; MOST_CELLS];
     let reading = text::input::feed(Reading::Start, &mut cells, input);

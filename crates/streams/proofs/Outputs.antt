@@ -5,7 +5,7 @@ use mathlib.Core.List.{List}
 use Prim.Native.Nat.{ℕ, _≤_}
 use lib.ListN.{length, take}
 use Rattle.cube.specs.Words.{Cover}
-use Rattle.text.specs.Output.{OutputBy}
+use Rattle.text.specs.Output.{ProgramOutput}
 use Rattle.text.specs.Steps.{PrintsState}
 use Rattle.text.specs.declared.input.Reading.{Reading}
 use Rattle.text.proofs.Lines.{prints-text, prints-inside}
@@ -14,11 +14,11 @@ use Rattle.streams.specs.Streams.{WholeOutput}
 use Rattle.streams.specs.Steps.{ReadAll, PrintsRead}
 
 -- a program prints at the end of the input what it prints for all that was read
-pub read-printed : {shown : ℕ → Cover → List ℕ} {May : ℕ → List ℕ → Cover → Type 0} {reading : Reading} {cells old new : List ℕ} {r : ℕ}
-    → ReadAll reading cells
+pub read-printed : {shown : ℕ → Cover → List ℕ} {May : ℕ → List ℕ → Cover → Type 0} {reading : Reading} {first cells old new : List ℕ} {r : ℕ}
+    → ReadAll reading first cells
     → PrintsState shown May reading cells old new r
-    → PrintsRead (OutputBy shown May) old new r
-read-printed {reading = reading} {cells} {old} {new} {r} a p =
+    → PrintsRead (ProgramOutput shown May) old new r
+read-printed {reading = reading} {cells = cells} {old} {new} {r} a p =
     record { input = a .input; prints = input-said (a .input) cells reading old new r (a .state) p }
 
 module _ {Output : List ℕ → List ℕ → Type 0} {old new : List ℕ} {r : ℕ} (p : PrintsRead Output old new r) where

@@ -5,9 +5,9 @@ use mathlib.Core.Bool.{Bool, true, false}
 use mathlib.Core.List.{List}
 use Prim.Native.Nat.{ℕ, zero, suc}
 use lib.IntN.{ℤ, pos, negsuc}
-use lib.ListN.{take}
+use lib.ListN.{take, drop}
 use Rattle.text.specs.Output.{PrintsInput}
-use Rattle.text.specs.Steps.{State, atStart, wrong, fed, stateOf, Room}
+use Rattle.text.specs.Steps.{mostCells, State, atStart, wrong, fed, stateOf, Room}
 use Rattle.text.specs.declared.input.Reading.{Reading}
 use Rattle.streams.specs.declared.Turn.{Turn}
 use Rattle.streams.specs.declared.Turn.the-variants.{More, Last}
@@ -37,12 +37,14 @@ pub record Turned (reading : Reading) (old : List ℕ) (got : ℤ) (piece : List
   pub state : stateOf (reached t) new ≡ afterRead (stateOf reading old) got piece
   pub last : isLast t ≡ endsInput got
   pub room : Room (reached t) new
+  pub rest : drop mostCells new ≡ drop mostCells old
 
--- the state after some input
-pub record ReadAll (r : Reading) (cells : List ℕ) : Type 0 where
+-- the state after some input; the buffer past the places for cells is unchanged
+pub record ReadAll (r : Reading) (old new : List ℕ) : Type 0 where
   pub input : List ℕ
-  pub state : stateOf r cells ≡ fed atStart input
-  pub room : Room r cells
+  pub state : stateOf r new ≡ fed atStart input
+  pub room : Room r new
+  pub rest : drop mostCells new ≡ drop mostCells old
 
 -- the output of a program for some input is at the front of the buffer, and r is its length
 pub record PrintsRead (Output : List ℕ → List ℕ → Type 0) (old new : List ℕ) (r : ℕ) : Type 0 where

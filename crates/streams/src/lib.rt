@@ -37,7 +37,7 @@ fn take_turn(reading: Reading, cells: &mut [u8], piece: &[u8], got: isize) -> Tu
 // Reads to the end. The count of turns makes the loop end; it never runs out.
 pub fn read_all(cells: &mut [u8]) -> Reading
     requires { ⌜ mostCells ≤ length (now cells) ⌝ }
-    ensures { λ r. ⌜ ReadAll r (now (cells .exit)) ⌝ }
+    ensures { λ r. ⌜ ReadAll r (now (cells .entry)) (now (cells .exit)) ⌝ }
 {
     let mut piece = io::large_buffer();
     let mut reading = Reading::Start;

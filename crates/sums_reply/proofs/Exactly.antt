@@ -1,7 +1,7 @@
 -- Document 02's example: the exchanged table of 0111 has one prime, 00, so there is one list, and the checker computes its line. Assumes nothing.
 use mathlib.Core.Path.{_≡_, refl, ap, _∙_}
-use mathlib.Core.List.{List, [], _∷_}
-use Prim.Native.Nat.{ℕ, _≤_}
+use mathlib.Core.List.{[], _∷_}
+use Prim.Native.Nat.{_≤_}
 use native.Mathlib.Omega.{arith}
 use lib.Dec.{lit<}
 use lib.ListN.{length}

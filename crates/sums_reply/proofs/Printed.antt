@@ -1,5 +1,5 @@
--- What is printed by the keep-out call's answer is what `product` defines for a table: the line of the list that the arrays hold, or the refusal. Assumes
--- nothing.
+-- What is printed by the keep-out call's answer is what `text` defines for a table: the line of the list that the arrays hold, or the refusal.
+-- Assumes nothing.
 use mathlib.Core.Path.{_≡_, sym, _∙_}
 use mathlib.Core.List.{List}
 use Prim.Native.Nat.{ℕ, _-_, _^_, _≤_}
@@ -8,7 +8,7 @@ use native.Mathlib.Omega.{arith}
 use lib.ListN.{length}
 use Rattle.cube.specs.Words.{firstRows}
 use Rattle.cube.specs.Calls.{widest, firstOf, tableConditions}
-use Rattle.cube.proofs.Calls.{Accepted, accepted, code-pairs-most}
+use Rattle.cube.proofs.Calls.{accepted, code-pairs-most}
 use Rattle.plan.specs.Plan.{planRefuses}
 use Rattle.plan.specs.declared.Planned.the-variants.{Rows, Refused}
 use Rattle.plan.proofs.Refusals.{refuses-as-table}
@@ -16,7 +16,7 @@ use Rattle.plan.proofs.Answers.{not-refused, accepted-refused, refused-by}
 use Rattle.keep_out.specs.KeepOut.{MayKeepOut, PlansKeepOut}
 use Rattle.keep_out.specs.Theorems.{exchanged, HeldKeepOut}
 use Rattle.keep_out.proofs.Exchanging.{exchange}
-use Rattle.keep_out.proofs.Theorems.{to-plan, arrays-keep-out}
+use Rattle.keep_out.proofs.Theorems.{plans-exchanged, arrays-keep-out}
 use Rattle.text.specs.Output.{refused, Prints}
 use Rattle.text.specs.Steps.{PrintsTable}
 use Rattle.text.proofs.Replies.{list-printed, refusal-printed}
@@ -31,10 +31,10 @@ module _ (n : ℕ) (t values cares values′ cares′ : List ℕ) (v : 2 ^ (wide
 
   module _ (rows bits : ℕ) (p : PlansKeepOut n t values cares values′ cares′ (Rows rows bits)) where
     keeps : HeldKeepOut n t values cares values′ cares′ rows bits
-    keeps = arrays-keep-out n t values cares values′ cares′ rows bits p
+    keeps = arrays-keep-out n t values cares values′ cares′ .counted rows bits p
 
     table-accepted : firstOf (tableConditions n t) ≡ 0
-    table-accepted = sym refusal-is ∙ not-refused n (exchanged t) values cares values′ cares′ rows bits (to-plan n t values cares values′ cares′ (Rows rows bits) p)
+    table-accepted = sym refusal-is ∙ not-refused n (exchanged t) values cares values′ cares′ rows bits (plans-exchanged n t values cares values′ cares′ (Rows rows bits) .0 p)
 
     pub printable : (out : List ℕ) → mostLine ≤ length out → PrintableLine n values′ cares′ rows out
     printable out room =
@@ -51,9 +51,9 @@ module _ (n : ℕ) (t values cares values′ cares′ : List ℕ) (v : 2 ^ (wide
     line-printed old new r q =
         list-printed n t old new r (firstRows rows values′ cares′) table-accepted (record { minimum = keeps .minimum; is-ascending = keeps .held .is-ascending }) q
 
-  pub keep-out-refused : (k : ℕ) → PlansKeepOut n t values cares values′ cares′ (Refused k) → (old new : List ℕ) (r : ℕ) → Prints (refused k) old new r
+  pub keep-out-refusal-printed : (k : ℕ) → PlansKeepOut n t values cares values′ cares′ (Refused k) → (old new : List ℕ) (r : ℕ) → Prints (refused k) old new r
       → PrintsTable excludingLine MayKeepOut n t old new r
-  keep-out-refused k p old new r q =
-      let plans = to-plan n t values cares values′ cares′ (Refused k) p in
+  keep-out-refusal-printed k p old new r q =
+      let plans = plans-exchanged n t values cares values′ cares′ (Refused k) .0 p in
       let number = refused-by n (exchanged t) values cares values′ cares′ k plans in
       refusal-printed n t old new r k (sym refusal-is ∙ number) (λ z. accepted-refused n (exchanged t) values cares values′ cares′ k plans (number ∙ z)) q

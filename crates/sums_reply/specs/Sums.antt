@@ -3,9 +3,9 @@
 use mathlib.Core.List.{List}
 use Prim.Native.Nat.{ℕ}
 use Rattle.keep_out.specs.KeepOut.{MayKeepOut}
-use Rattle.text.specs.Output.{OutputBy}
+use Rattle.text.specs.Output.{ProgramOutput}
 use Rattle.product.specs.Product.{excludingLine}
 
 -- the text is the whole output of `sums` for the whole input, however long its run is
 abbrev pub SumsFor : List ℕ → List ℕ → Type 0
-SumsFor input text = OutputBy excludingLine MayKeepOut input text
+SumsFor input text = ProgramOutput excludingLine MayKeepOut input text

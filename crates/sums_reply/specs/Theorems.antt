@@ -1,7 +1,8 @@
 -- What is proved of the output beyond what each call prints: what the line says of the table, and document 02's example. `proofs/` proves it.
 -- Assumes nothing.
 use mathlib.Core.Path.{_≡_}
-use mathlib.Core.Bool.{true, false}
+use mathlib.Core.Logic.{_↔_}
+use mathlib.Core.Bool.{Bool, true, false}
 use mathlib.Core.List.{List, [], _∷_, _++_}
 use Prim.Native.Nat.{ℕ, _^_, _<_}
 use lib.Dec.{T}
@@ -16,8 +17,8 @@ use Rattle.sums_reply.specs.Sums.{SumsFor}
 pub record SeparatesCodes (n : ℕ) (t output : List ℕ) : Type 0 where
   pub text : List ℕ
   pub line : output ≡ text ++ (lineFeed ∷ [])
-  pub wanted : (c : ℕ) → c < 2 ^ n → T (onSet t c) → TextValue n text c true
-  pub barred : (c : ℕ) → c < 2 ^ n → T (offSet t c) → TextValue n text c false
+  pub wanted : (c : ℕ) → c < 2 ^ n → T (onSet t c) → (v : Bool) → TextValue n text c v ↔ (v ≡ true)
+  pub barred : (c : ℕ) → c < 2 ^ n → T (offSet t c) → (v : Bool) → TextValue n text c v ↔ (v ≡ false)
 
 -- for every input in form whose table is not refused
 abbrev pub SumsSeparate : List ℕ → List ℕ → Type 0

@@ -7,7 +7,7 @@ use Rattle.cube.specs.Words.{Cover}
 use Rattle.cube.specs.Calls.{firstOf, tableConditions, Answer, refuses, gives}
 use Rattle.cube.proofs.Calls.{refuses-gives, same-value}
 use Rattle.text.specs.Input.{Table}
-use Rattle.text.specs.Output.{refused, tableText, printed, outputBy, OutputBy, Prints, PrintsInput}
+use Rattle.text.specs.Output.{refused, tableText, printed, outputBy, ProgramOutput, Prints, PrintsInput}
 use Rattle.text.specs.Steps.{keep, keptOf, State, atStart, fed, closed, stateOf, PrintsTable, PrintsState}
 use Rattle.text.specs.declared.input.Reading.{Reading}
 use Rattle.text.proofs.Stepping.{stepping}
@@ -60,7 +60,7 @@ module _ {shown : ℕ → Cover → List ℕ} {May : ℕ → List ℕ → Cover 
 
   pub input-said : (input cells : List ℕ) (reading : Reading) (old new : List ℕ) (r : ℕ) → stateOf reading cells ≡ fed atStart input
       → PrintsState shown May reading cells old new r
-      → PrintsInput (OutputBy shown May) input old new r
+      → PrintsInput (ProgramOutput shown May) input old new r
   input-said input cells reading old new r e p = record {
     text = outputBy shown input (p .list);
     output = record {

@@ -71,7 +71,7 @@ outputOf input list = outputBy rowsText input list
 
 -- the text is the whole output for the whole input, however long its run is, of a program that shows lists in this way and may write those of which May
 -- is true
-pub record OutputBy (shown : ℕ → Cover → List ℕ) (May : ℕ → List ℕ → Cover → Type 0) (input text : List ℕ) : Type 0 where
+pub record ProgramOutput (shown : ℕ → Cover → List ℕ) (May : ℕ → List ℕ → Cover → Type 0) (input text : List ℕ) : Type 0 where
   -- left open: which of several equally good lists it is
   pub list : Cover
   pub is-written : (t : Table) → read input ≡ gives t → firstOf (tableConditions (t .width) (t .cells)) ≡ 0 → May (t .width) (t .cells) list

@@ -120,6 +120,10 @@ pub record Closes (reading : Reading) (r : Text) : Type 0 where
 abbrev pub mostDigits : ℕ
 mostDigits = 20
 
+-- the variables whose numbers have one digit: x1 to x9
+abbrev pub mostVariables : ℕ
+mostVariables = 9
+
 -- the lines of the most rows of a shortest list at the widest width, and the last line
 abbrev pub mostOutput : ℕ
 mostOutput = (widest + 1) * 2 ^ (widest - 1) + (length (bytes "rows  bits ") + 2 * mostDigits + 1)

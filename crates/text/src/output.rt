@@ -5,13 +5,13 @@ ghost use mathlib.Core.Path.{_≡_};
 ghost use mathlib.Core.List.{[], _∷_, _++_};
 ghost use Prim.Native.Nat.{_+_, _<_, _≤_};
 ghost use lib.ListN.{length};
-ghost use Rattle.cube.specs.Words.{firstRows};
-ghost use Rattle.cube.specs.Theorems.{Variable};
+ghost use Rattle.cube.specs.Words.{digitOf, firstRows};
+ghost use Rattle.cube.specs.Theorems.{bitOfVariable, Variable};
 ghost use Rattle.cube.specs.Calls.{widest};
 ghost use Rattle.numbers.specs.Lent.{Puts};
 ghost use Rattle.text.specs.Characters.{lineFeed, digitCharacter};
 ghost use Rattle.text.specs.Output.{inDecimal, characterOfVariable, rowLine, listLines, totalsLine, refused, listText, Prints};
-ghost use Rattle.text.specs.Steps.{mostOutput, Printable};
+ghost use Rattle.text.specs.Steps.{mostOutput, mostVariables, Printable};
 
 // The longest output: lines of 7 bytes, one for each pair of codes, and the last line with two numbers of 20 digits.
 pub const MOST_OUTPUT: usize = 7 * MOST_CODE_PAIRS + 52;
@@ -28,6 +28,7 @@ fn word(text: &[u8], out: &mut [u8], at: usize) -> usize
     at + i
 }
 
+// One byte.
 pub fn byte(b: u8, out: &mut [u8], at: usize) -> usize
     requires { ⌜ at < length (now out) ⌝ }
     ensures { λ r. ⌜ Puts (b ∷ []) (now (out .entry)) at (now (out .exit)) r ⌝ }
@@ -36,6 +37,7 @@ pub fn byte(b: u8, out: &mut [u8], at: usize) -> usize
     at + 1
 }
 
+// A decimal digit.
 pub fn digit(d: usize, out: &mut [u8], at: usize) -> usize
     requires { ⌜ (d < 10) × (at < length (now out)) ⌝ }
     ensures { λ r. ⌜ Puts (digitCharacter d ∷ []) (now (out .entry)) at (now (out .exit)) r ⌝ }
@@ -64,6 +66,7 @@ fn number(text: &[u8], x: usize, out: &mut [u8], at: usize) -> usize
     decimal(x, out, next)
 }
 
+// The end of a line.
 pub fn line_feed(out: &mut [u8], at: usize) -> usize
     requires { ⌜ at < length (now out) ⌝ }
     ensures { λ r. ⌜ Puts (lineFeed ∷ []) (now (out .entry)) at (now (out .exit)) r ⌝ }
@@ -71,16 +74,35 @@ pub fn line_feed(out: &mut [u8], at: usize) -> usize
     byte(b'\n', out, at)
 }
 
+// The bit of variable xk in a value or a care.
+fn bit(n: usize, k: usize, byte: u8) -> usize
+    requires { ⌜ (n ≤ mostVariables) × Variable n k ⌝ }
+    ensures { λ r. ⌜ r ≡ bitOfVariable n k byte ⌝ }
+{
+    byte as usize / (1 << (n - k)) % 2
+}
+
+// The digit of variable xk in a row: a tested 0, a tested 1, or 2 where it is not tested.
+pub fn row_digit(n: usize, k: usize, value: u8, care: u8) -> usize
+    requires { ⌜ (n ≤ mostVariables) × Variable n k ⌝ }
+    ensures { λ r. ⌜ r ≡ digitOf (bitOfVariable n k value) (bitOfVariable n k care) ⌝ }
+{
+    if bit(n, k, care) == 0 {
+        return 2;
+    }
+    bit(n, k, value)
+}
+
 // The character of variable xk in the line of a row.
 fn character(n: usize, k: usize, value: u8, care: u8) -> u8
     requires { ⌜ (n ≤ widest) × Variable n k ⌝ }
     ensures { λ r. ⌜ r ≡ characterOfVariable n (record { value = value; care = care }) k ⌝ }
 {
-    let weight = spelling::codes(n - k);
-    if care as usize / weight % 2 == 0 {
+    let d = row_digit(n, k, value, care);
+    if d == 2 {
         return b'-';
     }
-    b'0' + (value as usize / weight % 2) as u8
+    b'0' + d as u8
 }
 
 // The line of a row, x1 first.

@@ -1,21 +1,22 @@
 -- `better::better` meets its contract: it refuses as Plan does, or both lists stand in the local arrays and the better one is copied. Assumes nothing.
 use mathlib.Core.Path.{_≡_, sym, _∙_, subst}
 use mathlib.Core.List.{List}
-use Prim.Native.Nat.{ℕ}
+use Prim.Native.Nat.{ℕ, _-_, _^_}
 use lib.Dec.{lit≤}
 use lib.ListN.{length}
 use borrow.Author.Needs.{needs}
+use Rattle.cube.specs.Calls.{widest}
 use Rattle.plan.specs.Plan.{planRefuses, Totals}
 use Rattle.keep_out.specs.Theorems.{exchanged}
 use Rattle.keep_out.proofs.Exchanging.{exchange}
-use Rattle.keep_out.proofs.Theorems.{to-plan}
+use Rattle.keep_out.proofs.Theorems.{plans-exchanged}
 use Rattle.better.proofs.Endings.{StandsIn, stands, better-refused, none-locally, copyable, keep-out-done, ordinary-done}
 use Rattle.better.proofs.better.Statement.{statement}
 use Rattle.better.proofs.better.Tie as tie
 
 -- ---- both lists are built
 
-module _ (c : tie.After-counts-in2) where
+module _ (c : tie.After-totals-in2) where
   abbrev planned : tie.After-plan
   planned = c .before .before .before .before .before .before .before .before .before
 
@@ -37,25 +38,25 @@ module _ (c : tie.After-counts-in2) where
   none : planRefuses n t (length (begun .args .values .now)) (length (begun .args .cares .now)) ≡ 0
   none = sym (tested .before .plan-refusal .ensures) ∙ tested .if1 .left
 
-  abbrev listCounts : Totals
-  listCounts = record { rows = c .before .before .before .before .before .before .counts-in .result .rows; bits = c .before .before .before .before .before .before .counts-in .result .bits }
+  abbrev listTotals : Totals
+  listTotals = record { rows = c .before .before .before .before .before .before .totals-in .result .rows; bits = c .before .before .before .before .before .before .totals-in .result .bits }
 
-  abbrev outCounts : Totals
-  outCounts = record { rows = c .counts-in2 .result .rows; bits = c .counts-in2 .result .bits }
+  abbrev excludingTotals : Totals
+  excludingTotals = record { rows = c .totals-in2 .result .rows; bits = c .totals-in2 .result .bits }
 
   -- with places for the widest list neither call refuses
-  locally : planRefuses n t 32 32 ≡ 0
-  locally = none-locally n t (begun .args .values .now) (begun .args .cares .now) none 32 32 (lit≤ tt) (lit≤ tt)
+  locally : planRefuses n t (2 ^ (widest - 1)) (2 ^ (widest - 1)) ≡ 0
+  locally = none-locally n t (begun .args .values .now) (begun .args .cares .now) none (2 ^ (widest - 1)) (2 ^ (widest - 1)) (lit≤ tt) (lit≤ tt)
 
-  list-stands : StandsIn n t (planned .plan .last .1 .1 .0) (planned .plan .last .1 .1 .1 .0) listCounts
+  list-stands : StandsIn n t (planned .plan .last .1 .1 .0) (planned .plan .last .1 .1 .1 .0) listTotals
   list-stands =
-      subst (StandsIn n t (planned .plan .last .1 .1 .0) (planned .plan .last .1 .1 .1 .0)) (sym (c .before .before .before .before .before .before .counts-in .ensures))
+      subst (StandsIn n t (planned .plan .last .1 .1 .0) (planned .plan .last .1 .1 .1 .0)) (sym (c .before .before .before .before .before .before .totals-in .ensures))
       (stands n t _ _ _ _ locally (planned .plan .result) (planned .plan .ensures))
 
-  out-stands : StandsIn n (exchanged t) (kept-out .keep-out .last .1 .1 .0) (kept-out .keep-out .last .1 .1 .1 .0) outCounts
-  out-stands =
-      subst (StandsIn n (exchanged t) (kept-out .keep-out .last .1 .1 .0) (kept-out .keep-out .last .1 .1 .1 .0)) (sym (c .counts-in2 .ensures))
-      (stands n (exchanged t) _ _ _ _ (exchange n t .refusal 32 32 ∙ locally) (kept-out .keep-out .result) (to-plan n t _ _ _ _ (kept-out .keep-out .result) (kept-out .keep-out .ensures)))
+  excluding-stands : StandsIn n (exchanged t) (kept-out .keep-out .last .1 .1 .0) (kept-out .keep-out .last .1 .1 .1 .0) excludingTotals
+  excluding-stands =
+      subst (StandsIn n (exchanged t) (kept-out .keep-out .last .1 .1 .0) (kept-out .keep-out .last .1 .1 .1 .0)) (sym (c .totals-in2 .ensures))
+      (stands n (exchanged t) _ _ _ _ (exchange n t .refusal (2 ^ (widest - 1)) (2 ^ (widest - 1)) ∙ locally) (kept-out .keep-out .result) (plans-exchanged n t _ _ _ _ (kept-out .keep-out .result) .0 (kept-out .keep-out .ensures)))
 
 -- ---- the needs
 
@@ -76,8 +77,8 @@ slice-aggregate-plan-2 c = search needs
 plan-requires : tie.Need-plan-requires
 plan-requires c κs = search needs
 
-counts-in-requires : tie.Need-counts-in-requires
-counts-in-requires c κs = search needs
+totals-in-requires : tie.Need-totals-in-requires
+totals-in-requires c κs = search needs
 
 slice-aggregate-keep-out : tie.Need-slice-aggregate-keep-out
 slice-aggregate-keep-out c = search needs
@@ -88,8 +89,8 @@ slice-aggregate-keep-out-2 c = search needs
 keep-out-requires : tie.Need-keep-out-requires
 keep-out-requires c κs = search needs
 
-counts-in-requires-2 : tie.Need-counts-in-requires-2
-counts-in-requires-2 c κs = search needs
+totals-in-requires-2 : tie.Need-totals-in-requires-2
+totals-in-requires-2 c κs = search needs
 
 is-better-requires : tie.Need-is-better-requires
 is-better-requires c κs = search needs
@@ -103,7 +104,7 @@ slice-aggregate-copy-rows-2 c = search needs
 copy-rows-requires : tie.Need-copy-rows-requires
 copy-rows-requires c κs =
     let built = c .before .before .before .before .before .before in
-    copyable (n built) (t built) (begun built .args .values .now) (begun built .args .cares .now) (none built) (out-stands built)
+    copyable (n built) (t built) (begun built .args .values .now) (begun built .args .cares .now) (none built) (excluding-stands built)
 
 same-length : tie.Need-same-length
 same-length c = search needs
@@ -116,7 +117,7 @@ returns-2 c =
     let copied = c .before .before .before .before .copy-rows .ensures in
     let chosen = c .before .before .before .before .before .before .before .before .before in
     let built = chosen .before .before in
-    keep-out-done (n built) (t built) (begun built .args .values .now) (begun built .args .cares .now) (none built) (list-stands built) (out-stands built) _ _
+    keep-out-done (n built) (t built) (begun built .args .values .now) (begun built .args .cares .now) (none built) (list-stands built) (excluding-stands built) _ _
     (sym (chosen .before .is-better .ensures) ∙ chosen .if2 .taken) (copied .0) (copied .1)
 
 slice-aggregate-copy-rows-3 : tie.Need-slice-aggregate-copy-rows-3
@@ -141,13 +142,13 @@ returns-3 c =
     let copied = c .before .before .before .before .copy-rows2 .ensures in
     let chosen = c .before .before .before .before .before .before .before .before .before in
     let built = chosen .before .before in
-    ordinary-done (n built) (t built) (begun built .args .values .now) (begun built .args .cares .now) (none built) (list-stands built) (out-stands built) _ _
+    ordinary-done (n built) (t built) (begun built .args .values .now) (begun built .args .cares .now) (none built) (list-stands built) (excluding-stands built) _ _
     (sym (chosen .before .is-better .ensures) ∙ chosen .if2 .left) (copied .0) (copied .1)
 
 pub better-spec : {M : Type 1} → statement M
 better-spec =
     tie.close
-    (tie.spec plan-refusal-requires returns slice-aggregate-plan slice-aggregate-plan-2 plan-requires counts-in-requires slice-aggregate-keep-out
-    slice-aggregate-keep-out-2 keep-out-requires counts-in-requires-2 is-better-requires slice-aggregate-copy-rows slice-aggregate-copy-rows-2
+    (tie.spec plan-refusal-requires returns slice-aggregate-plan slice-aggregate-plan-2 plan-requires totals-in-requires slice-aggregate-keep-out
+    slice-aggregate-keep-out-2 keep-out-requires totals-in-requires-2 is-better-requires slice-aggregate-copy-rows slice-aggregate-copy-rows-2
     copy-rows-requires same-length same-length-2 returns-2 slice-aggregate-copy-rows-3 slice-aggregate-copy-rows-4 copy-rows-requires-2 same-length-3
     same-length-4 returns-3)

@@ -1,19 +1,12 @@
 -- `better::copy_rows` meets its contract: the first places of the two arrays are lent and copied. Assumes nothing.
-use mathlib.Core.Path.{_≡_, sym, ap, _∙_}
-use mathlib.Core.List.{List, _++_}
-use Prim.Native.Nat.{ℕ}
+use mathlib.Core.Path.{sym}
 use native.Mathlib.Omega.{arith}
-use lib.ListN.{length, take, drop}
-use lib.Seq.{take-length}
+use lib.ListN.{take}
 use borrow.Author.Needs.{needs}
 use borrow.Table.Elements.{length-take-le}
-use Rattle.cube.specs.Calls.{written}
+use Rattle.numbers.proofs.Lent.{copied}
 use Rattle.better.proofs.copy_rows.Statement.{statement}
 use Rattle.better.proofs.copy_rows.Tie as tie
-
--- what a copy of a part leaves in an array
-copied : (part old new : List ℕ) → new ≡ take (length part) part ++ drop (length part) old → new ≡ written 0 part old
-copied part old new h = h ∙ ap (λ (l : List ℕ). l ++ drop (length part) old) (take-length part)
 
 slice-aggregate-copy : tie.Need-slice-aggregate-copy
 slice-aggregate-copy c = sym (length-take-le _ _ (c .before .before .before .before .before .pre .from-values))
@@ -37,7 +30,7 @@ returns : tie.Need-returns
 returns c =
     let first = c .before .before .before .before .before .before .before in
     let s = first .before .before .before .before .before .before .before .args in
-    (copied (take (s .rows) (s .vs .now)) _ _ (first .copy .ensures .1), copied (take (s .rows) (s .ws .now)) _ _ (c .before .before .copy2 .ensures .1))
+    (copied (take (s .rows) (s .vs .now)) _ (first .copy .ensures .1), copied (take (s .rows) (s .ws .now)) _ (c .before .before .copy2 .ensures .1))
 
 pub copy-rows-spec : {M : Type 1} → statement M
 copy-rows-spec =

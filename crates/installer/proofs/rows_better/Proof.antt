@@ -10,8 +10,8 @@ use Rattle.installer.proofs.rows_better.Tie as tie
 better-requires : tie.Need-better-requires
 better-requires c κs = search needs
 
-built-number-requires : tie.Need-built-number-requires
-built-number-requires c κs = few-built _ (c .before .before .before .before .better .ensures)
+better-number-requires : tie.Need-better-number-requires
+better-number-requires c κs = few-built _ (c .before .before .before .before .better .ensures)
 
 same-length : tie.Need-same-length
 same-length c = search needs
@@ -22,8 +22,8 @@ same-length-2 c = search needs
 returns : tie.Need-returns
 returns c =
     let p = c .before .before .before .before .before .better in
-    let number = returned (c .built-number .result) (c .built-number .ok) ∙ c .built-number .ensures in
+    let number = returned (c .better-number .result) (c .better-number .ok) ∙ c .better-number .ensures in
     record { built = p .result; builds = p .ensures; number = number; read = ap readBetter number ∙ built-back _ (p .ensures) }
 
 pub rows-better-spec : {M : Type 1} → statement M
-rows-better-spec = tie.close (tie.spec better-requires built-number-requires same-length same-length-2 returns)
+rows-better-spec = tie.close (tie.spec better-requires better-number-requires same-length same-length-2 returns)

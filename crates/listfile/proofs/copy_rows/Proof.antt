@@ -3,8 +3,8 @@ use mathlib.Core.Path.{_≡_, ap, _∙_}
 use mathlib.Core.List.{List, _++_}
 use Prim.Native.Nat.{ℕ}
 use lib.ListN.{length, take, drop}
-use lib.Seq.{take-length}
 use borrow.Author.Needs.{needs}
+use Rattle.numbers.proofs.Lent.{copied}
 use Rattle.cube.specs.Calls.{written}
 use Rattle.listfile.specs.File.{oneByteCount}
 use Rattle.listfile.proofs.Files.{values-part, cares-part}
@@ -12,8 +12,8 @@ use Rattle.listfile.proofs.copy_rows.Statement.{statement}
 use Rattle.listfile.proofs.copy_rows.Tie as tie
 
 -- what a copy of a part leaves in an array
-copied : (old : List ℕ) {part src new : List ℕ} → part ≡ src → new ≡ take (length part) part ++ drop (length part) old → new ≡ written 0 src old
-copied old {part} e h = h ∙ ap (λ (l : List ℕ). l ++ drop (length part) old) (take-length part) ∙ ap (λ (l : List ℕ). l ++ drop (length l) old) e
+left : (old : List ℕ) {part src new : List ℕ} → part ≡ src → new ≡ take (length part) part ++ drop (length part) old → new ≡ written 0 src old
+left old {part} e h = copied part old h ∙ ap (λ (l : List ℕ). l ++ drop (length l) old) e
 
 count-in-requires : tie.Need-count-in-requires
 count-in-requires c κs = search needs
@@ -58,8 +58,8 @@ returns : tie.Need-returns
 returns c =
     let s = c .before .before .before .before .before .before .before .before .before .before .before .before .before .before .args in
     let count = c .before .before .before .before .before .before .before .before .before .before .count-in in (
-      copied (s .values .now) (values-part oneByteCount (s .file .now) (count .result) (count .ensures .0)) (c .before .before .before .before .before .before .before .copy .ensures .1),
-      copied (s .cares .now) (cares-part oneByteCount (s .file .now) (count .result) (count .ensures .0)) (c .before .before .copy2 .ensures .1),
+      left (s .values .now) (values-part oneByteCount (s .file .now) (count .result) (count .ensures .0)) (c .before .before .before .before .before .before .before .copy .ensures .1),
+      left (s .cares .now) (cares-part oneByteCount (s .file .now) (count .result) (count .ensures .0)) (c .before .before .copy2 .ensures .1),
     )
 
 pub copy-rows-spec : {M : Type 1} → statement M

@@ -10,7 +10,7 @@ use Rattle.numbers.proofs.Lent.{puts-append, puts-same, puts-long}
 use Rattle.text.specs.Characters.{bytes, digitCharacter}
 use Rattle.text.proofs.Decimals.{decimals}
 use Rattle.product.specs.Product.{literalText}
-use Rattle.product.specs.Steps.{mostVariables}
+use Rattle.text.specs.Steps.{mostVariables}
 use Rattle.product.proofs.literal.Statement.{statement}
 use Rattle.product.proofs.literal.Tie as tie
 

@@ -9,7 +9,8 @@ use Rattle.numbers.proofs.Lent.{puts-none, puts-append, puts-same, puts-long}
 use Rattle.cube.specs.Words.{Row}
 use Rattle.text.specs.Characters.{bytes}
 use Rattle.product.specs.Product.{sumText, literalsOfVariable, literalsFrom, rowSum}
-use Rattle.product.specs.Steps.{mostVariables, textBehind, openText, jointAt}
+use Rattle.text.specs.Steps.{mostVariables}
+use Rattle.product.specs.Steps.{textBehind, openText, jointAt}
 use Rattle.product.proofs.Writing.{literals-more, open-append, open-shorter, close-empty, close-some, closed-length}
 use Rattle.product.proofs.sum.Statement.{statement}
 use Rattle.product.proofs.sum.Tie as tie

@@ -40,13 +40,13 @@ module _ (s : tie.Start) {d : ℕ} (d-is : d ≡ digitIn s) where
       ∙ ap₂ (λ (b : ℕ) (untested : Bool). textBehind b (cond untested [] (literal ∷ []))) b-is (sym (ne-eqb d 2 tested))
       ∙ ap (textBehind (jointAt (s .args .start) (s .args .at))) (sym says ∙ ap (literalsOfDigit (s .args .k)) d-is)
 
-digit-requires : tie.Need-digit-requires
-digit-requires c κs = search needs
+row-digit-requires : tie.Need-row-digit-requires
+row-digit-requires c κs = search needs
 
 returns : tie.Need-returns
 returns c =
     let s = c .before .before .before in
-    puts-same (none s (c .before .digit .ensures) (c .if1 .taken)) (puts-none (s .args .out .now) (s .args .at))
+    puts-same (none s (c .before .row-digit .ensures) (c .if1 .taken)) (puts-none (s .args .out .now) (s .args .at))
 
 joint-requires : tie.Need-joint-requires
 joint-requires c κs = search needs
@@ -55,7 +55,7 @@ byte-requires : tie.Need-byte-requires
 byte-requires c κs =
     let read = c .before .before .before in
     let s = read .before .before in
-    omega (arith, ap length (one s (read .digit .ensures) _ refl (c .before .before .if1 .left) (c .before .joint .ensures)), s .pre .2)
+    omega (arith, ap length (one s (read .row-digit .ensures) _ refl (c .before .before .if1 .left) (c .before .joint .ensures)), s .pre .2)
 
 literal-requires : tie.Need-literal-requires
 literal-requires c κs =
@@ -66,7 +66,7 @@ literal-requires c κs =
       omega (arith, s .pre .0, s .pre .1),
       omega (
         arith,
-        ap length (one s (read .digit .ensures) _ refl (before .before .if1 .left) (before .joint .ensures)),
+        ap length (one s (read .row-digit .ensures) _ refl (before .before .if1 .left) (before .joint .ensures)),
         s .pre .2,
         first .byte .ensures .behind,
         puts-long (first .byte .ensures),
@@ -82,8 +82,8 @@ returns-2 c =
     let before = first .before .before in
     let read = before .before .before in
     let s = read .before .before in
-    puts-same (one s (read .digit .ensures) _ refl (before .before .if1 .left) (before .joint .ensures))
+    puts-same (one s (read .row-digit .ensures) _ refl (before .before .if1 .left) (before .joint .ensures))
     (puts-append (first .byte .ensures) (c .before .before .literal .ensures))
 
 pub variable-spec : {M : Type 1} → statement M
-variable-spec = tie.close (tie.spec digit-requires returns joint-requires byte-requires literal-requires same-length returns-2)
+variable-spec = tie.close (tie.spec row-digit-requires returns joint-requires byte-requires literal-requires same-length returns-2)

@@ -3,7 +3,7 @@ use mathlib.Core.Path.{subst}
 use lib.Dec.{lit≤}
 use borrow.Author.Needs.{needs}
 use Rattle.plan.specs.Plan.{Plans}
-use Rattle.reply.proofs.Printed.{printable, plan-printed, plan-refused}
+use Rattle.reply.proofs.Printed.{printable, plan-printed, plan-refusal-printed}
 use Rattle.reply.proofs.table.Statement.{statement}
 use Rattle.reply.proofs.table.Tie as tie
 
@@ -58,7 +58,7 @@ returns-2 c =
     let told = put .before .before .before in
     let planned = told .before .before .before .before in
     let s = planned .before .before .before .before .before .args in
-    plan-refused (s .n) (s .cells .now) _ _ _ _ (lit≤ tt) (lit≤ tt) _ (subst (Plans (s .n) (s .cells .now) _ _ _ _) (told .k .given .1) (planned .plan .ensures)) _ _ _ (put .refusal .ensures)
+    plan-refusal-printed (s .n) (s .cells .now) _ _ _ _ (lit≤ tt) (lit≤ tt) _ (subst (Plans (s .n) (s .cells .now) _ _ _ _) (told .k .given .1) (planned .plan .ensures)) _ _ _ (put .refusal .ensures)
 
 pub table-spec : {M : Type 1} → statement M
 table-spec =

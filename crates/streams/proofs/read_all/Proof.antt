@@ -12,7 +12,7 @@ use Rattle.streams.proofs.read_all.Statement.{statement}
 use Rattle.streams.proofs.read_all.Tie as tie
 
 abbrev Inv-loop : tie.InvT-loop
-Inv-loop cells₀ piece₀ reading₀ turns₀ cells piece reading turns = (length cells ≡ length cells₀) × ReadAll reading cells × (65536 ≡ length piece)
+Inv-loop cells₀ piece₀ reading₀ turns₀ cells piece reading turns = (length cells ≡ length cells₀) × ReadAll reading cells₀ cells × (65536 ≡ length piece)
 
 abbrev μ-loop : tie.MeasureT-loop
 μ-loop cells₀ piece₀ reading₀ turns₀ cells piece reading turns = turns
@@ -62,7 +62,7 @@ module _ (c : tie.After-take-turn Inv-loop μ-loop) where
   cells-long : length (c .take-turn .last .1 .0) ≡ length (entry past-read .before .before .before .args .cells .now)
   cells-long = c .take-turn .kept .1 .0 ∙ entry past-read .loop .inv .0
 
-  read-on : (t : Turn) → c .take-turn .result ≡ t → ReadAll (reached t) (c .take-turn .last .1 .0)
+  read-on : (t : Turn) → c .take-turn .result ≡ t → ReadAll (reached t) (entry past-read .before .before .before .args .cells .now) (c .take-turn .last .1 .0)
   read-on t e = read-more _ _ _ _ _ t _ e (c .take-turn .ensures) (entry past-read .loop .inv .1)
 
   a-turn-left : 0 < entry past-read .loop .turns
@@ -89,7 +89,7 @@ same-length-2 : tie.Need-same-length-2 Inv-loop μ-loop
 same-length-2 c = c .before .loop .inv .0
 
 returns-2 : tie.Need-returns-2 Inv-loop μ-loop
-returns-2 c = read-wrong _ (c .before .loop .inv .1 .room .places)
+returns-2 c = read-wrong (c .before .loop .inv .1)
 
 pub read-all-spec : {M : Type 1} → statement M
 read-all-spec =

@@ -3,7 +3,7 @@ use mathlib.Core.Path.{subst}
 use lib.Dec.{lit≤}
 use borrow.Author.Needs.{needs}
 use Rattle.keep_out.specs.KeepOut.{PlansKeepOut}
-use Rattle.sums_reply.proofs.Printed.{printable, line-printed, keep-out-refused}
+use Rattle.sums_reply.proofs.Printed.{printable, line-printed, keep-out-refusal-printed}
 use Rattle.sums_reply.proofs.table.Statement.{statement}
 use Rattle.sums_reply.proofs.table.Tie as tie
 
@@ -58,7 +58,7 @@ returns-2 c =
     let told = put .before .before .before in
     let planned = told .before .before .before .before in
     let s = planned .before .before .before .before .before .args in
-    keep-out-refused (s .n) (s .cells .now) _ _ _ _ (lit≤ tt) (lit≤ tt) _ (subst (PlansKeepOut (s .n) (s .cells .now) _ _ _ _) (told .k .given .1) (planned .keep-out .ensures)) _ _ _ (put .refusal .ensures)
+    keep-out-refusal-printed (s .n) (s .cells .now) _ _ _ _ (lit≤ tt) (lit≤ tt) _ (subst (PlansKeepOut (s .n) (s .cells .now) _ _ _ _) (told .k .given .1) (planned .keep-out .ensures)) _ _ _ (put .refusal .ensures)
 
 pub table-spec : {M : Type 1} → statement M
 table-spec =

@@ -1,12 +1,13 @@
--- `product::digit` meets its contract: the digit is 2 where the bit of care is 0, else the bit of value. Assumes nothing.
+-- `text::output::row_digit` meets its contract: the digit is 2 where the bit of care is 0, else the bit of value. Assumes nothing.
 use mathlib.Core.Path.{_≡_, sym, ap, _∙_}
 use mathlib.Core.Bool.{Bool, cond}
 use Prim.Native.Nat.{ℕ}
 use borrow.Author.Needs.{needs}
 use borrow.Author.Tests.{eq-eqb, ne-eqb}
 use Rattle.cube.specs.Words.{digitOf}
-use Rattle.product.proofs.digit.Statement.{statement}
-use Rattle.product.proofs.digit.Tie as tie
+use Rattle.cube.specs.Theorems.{bitOfVariable}
+use Rattle.text.proofs.output.row_digit.Statement.{statement}
+use Rattle.text.proofs.output.row_digit.Tie as tie
 
 -- v and w are the bits of value and care, and b is what was read of care
 untested : (v w b : ℕ) → b ≡ w → b ≡ 0 → 2 ≡ digitOf v w
@@ -19,7 +20,9 @@ bit-requires : tie.Need-bit-requires
 bit-requires c κs = search needs
 
 returns : tie.Need-returns
-returns c = untested _ _ _ (c .before .bit .ensures) (c .if1 .taken)
+returns c =
+    let s = c .before .before .args in
+    untested (bitOfVariable (s .n) (s .k) (s .value)) (bitOfVariable (s .n) (s .k) (s .care)) _ (c .before .bit .ensures) (c .if1 .taken)
 
 bit-requires-2 : tie.Need-bit-requires-2
 bit-requires-2 c κs = search needs
@@ -27,5 +30,5 @@ bit-requires-2 c κs = search needs
 returns-2 : tie.Need-returns-2
 returns-2 c = tested _ _ _ _ (c .before .before .bit .ensures) (c .before .if1 .left) (c .bit2 .ensures)
 
-pub digit-spec : {M : Type 1} → statement M
-digit-spec = tie.close (tie.spec bit-requires returns bit-requires-2 returns-2)
+pub row-digit-spec : {M : Type 1} → statement M
+row-digit-spec = tie.close (tie.spec bit-requires returns bit-requires-2 returns-2)

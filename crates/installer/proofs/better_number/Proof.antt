@@ -1,4 +1,4 @@
--- `installer::built_number` meets its contract, case by case. Assumes nothing.
+-- `installer::better_number` meets its contract, case by case. Assumes nothing.
 use mathlib.Core.Path.{sym, ap, _∙_, subst}
 use native.Mathlib.Omega.{arith}
 use borrow.Author.Needs.{needs}
@@ -8,8 +8,8 @@ use Rattle.better.specs.declared.Built.the-variants.{Ordinary, KeepOut}
 use Rattle.installer.specs.Numbers.{betterNumber}
 use Rattle.installer.specs.Steps.{FewBuilt}
 use Rattle.installer.proofs.Signed.{small-is, returned}
-use Rattle.installer.proofs.built_number.Statement.{statement}
-use Rattle.installer.proofs.built_number.Tie as tie
+use Rattle.installer.proofs.better_number.Statement.{statement}
+use Rattle.installer.proofs.better_number.Tie as tie
 
 -- the totals at hand are small
 few : (c : tie.After-answer) → FewBuilt (Ordinary (c .answer .given .0 .0) (c .answer .given .0 .1 .0))
@@ -65,8 +65,8 @@ returns-3 c =
     returned (c .refusal .result) (c .refusal .ok) ∙ c .refusal .ensures
     ∙ ap (λ (a : Built). betterNumber (builtAnswer a)) (sym (c .before .before .answer3 .given .1))
 
-pub built-number-spec : {M : Type 1} → statement M
-built-number-spec =
+pub better-number-spec : {M : Type 1} → statement M
+better-number-spec =
     tie.close
     (tie.spec enum-known-answer mul-result add-result cast-result enum-known-answer-2 mul-result-2 add-result-2 add-result-3 cast-result-2
     enum-known-answer-3 refusal-requires returns returns-2 returns-3)

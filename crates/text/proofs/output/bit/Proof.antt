@@ -1,4 +1,4 @@
--- `product::bit` meets its contract: 1 << (n - k), which a word holds, is the weight of variable xk. Assumes nothing.
+-- `text::output::bit` meets its contract: 1 << (n - k), which a word holds, is the weight of variable xk. Assumes nothing.
 use mathlib.Core.Path.{_≡_, ap, _∙_, subst⁻¹}
 use Prim.Native.Nat.{ℕ, _-_, _*_, _^_, _/_, _%_, _<_, _≤_}
 use native.Mathlib.Nat.{one-mul}
@@ -7,9 +7,9 @@ use lib.Dec.{lit<}
 use lib.Pow.{pow-pos, shl-exact}
 use borrow.Author.Needs.{needs}
 use Rattle.cube.specs.Theorems.{bitOfVariable}
-use Rattle.product.specs.Steps.{mostVariables}
-use Rattle.product.proofs.bit.Statement.{statement}
-use Rattle.product.proofs.bit.Tie as tie
+use Rattle.text.specs.Steps.{mostVariables}
+use Rattle.text.proofs.output.bit.Statement.{statement}
+use Rattle.text.proofs.output.bit.Tie as tie
 
 weight : (shift : ℕ) → shift ≤ mostVariables → (1 * 2 ^ shift) % 2 ^ 64 ≡ 2 ^ shift
 weight shift l = shl-exact 1 shift 64 (lit< tt) (omega arith) ∙ one-mul (2 ^ shift)
