@@ -31,8 +31,8 @@
  * so threads may call at the same time, each with its own arrays.
  *
  * A call needs stack: allow rows_plan, rows_keep_out and rows_better 1 MB. The most that was measured,
- * on x86-64, is 287 KB for each of them, 39 KB for rows_chart and 13 KB for the other calls; no bound is
- * proved.
+ * on x86-64, is 287 KB for rows_plan and 300 bytes more for the other two, 39 KB for rows_chart and 13 KB
+ * for the other calls; no bound is proved.
  *
  * Answers
  *
@@ -131,13 +131,14 @@ int32_t rows_plan(size_t n, const uint8_t *table, size_t table_len, uint8_t *val
 int32_t rows_keep_out(size_t n, const uint8_t *table, size_t table_len, uint8_t *values, size_t values_len,
                       uint8_t *cares, size_t cares_len);
 
-/* The better of the two: builds the list of rows_plan and that of rows_keep_out, and writes the one that
- * has fewer rows, or as many rows and fewer tested bits. Where both counts are equal, that of rows_plan
- * is written. Places after the list are as they were before the call.
+/* The better of both kinds: builds a shortest list, as rows_plan does, and a shortest keep-out list, as
+ * rows_keep_out does, and writes the one that has fewer rows, or as many rows and fewer tested bits. Where
+ * both counts are equal, the ordinary one is written. Places after the list are as they were before the
+ * call.
  *
- * Answers 10000 * rows + tested bits of the list that is written, as rows_plan does, and 100000000 more if
- * it is the keep-out list: answer / 100000000 is 0 or 1, and answer % 100000000 is what the call that
- * writes this list answers.
+ * Answers 10000 * rows + tested bits of the list that is written, and 100000000 more if it is the keep-out
+ * list: answer / 100000000 is 1 for the keep-out list and 0 for the ordinary one, and answer % 100000000
+ * is read as that of rows_plan.
  * Refuses as rows_plan does.
  */
 int32_t rows_better(size_t n, const uint8_t *table, size_t table_len, uint8_t *values, size_t values_len,

@@ -108,12 +108,18 @@ size_t find_serving(size_t n, const uint8_t *table, struct term *primes) {
     return count;
 }
 
+static int list_matches(const uint8_t *values, const uint8_t *cares, size_t rows, size_t code) {
+    for (size_t i = 0; i < rows; i++) {
+        if (matches((struct row){values[i], cares[i]}, code)) {
+            return 1;
+        }
+    }
+    return 0;
+}
+
 int32_t verdict(size_t n, const uint8_t *table, const uint8_t *values, const uint8_t *cares, size_t rows) {
     for (size_t code = 0; code < power(2, n); code++) {
-        int hit = 0;
-        for (size_t i = 0; i < rows; i++) {
-            hit |= matches((struct row){values[i], cares[i]}, code);
-        }
+        int hit = list_matches(values, cares, rows, code);
         if (table[code] == 1 && !hit) {
             return 1 + (int32_t)code;
         }
@@ -122,6 +128,21 @@ int32_t verdict(size_t n, const uint8_t *table, const uint8_t *values, const uin
         }
     }
     return 0;
+}
+
+int keeps_out(size_t n, const uint8_t *table, const uint8_t *values, const uint8_t *cares, size_t rows) {
+    for (size_t code = 0; code < power(2, n); code++) {
+        int hit = list_matches(values, cares, rows, code);
+        if ((table[code] == 0 && !hit) || (table[code] == 1 && hit)) {
+            return 0;
+        }
+    }
+    return 1;
+}
+
+int32_t better_of(int32_t plan, int32_t keep_out) {
+    int32_t more_rows = plan / 10000 - keep_out / 10000, more_bits = plan % 10000 - keep_out % 10000;
+    return more_rows > 0 || (more_rows == 0 && more_bits > 0) ? KEPT_OUT + keep_out : plan;
 }
 
 uint64_t random_word(void) {

@@ -1,4 +1,5 @@
-/* The words of document 01 in a few lines of C each, by trying every code and every cube. The tests compare the product with them; the two share no code. */
+/* The words of document 01, and those of document 02 on keep-out lists, in a few lines of C each, by trying every code and every cube. The tests compare the
+ * product with them; the two share no code. */
 #ifndef MEANINGS_H
 #define MEANINGS_H
 
@@ -37,6 +38,17 @@ size_t find_serving(size_t n, const uint8_t *table, struct term *primes);
 
 /* What Check answers for a formed list, in C. */
 int32_t verdict(size_t n, const uint8_t *table, const uint8_t *values, const uint8_t *cares, size_t rows);
+
+/* Whether a list matches every barred code of the table and no wanted one. */
+int keeps_out(size_t n, const uint8_t *table, const uint8_t *values, const uint8_t *cares, size_t rows);
+
+/* The form of the calls that write a list for a table: rows_plan, rows_keep_out and rows_better. */
+typedef int32_t building(size_t n, const uint8_t *table, size_t table_len, uint8_t *values, size_t values_len, uint8_t *cares, size_t cares_len);
+
+/* What rows_better answers where rows_plan and rows_keep_out answer these numbers, of 10000 * rows + tested bits; KEPT_OUT more for the keep-out list. */
+enum { KEPT_OUT = 100000000 };
+
+int32_t better_of(int32_t plan, int32_t keep_out);
 
 /* The same numbers in each run. */
 uint64_t random_word(void);

@@ -22,9 +22,11 @@ make install PREFIX=/usr DESTDIR="$folder/image"
 files() {
     (cd "$1" && find . -type f -printf '%m %P\n' | sort)
 }
-expect "PREFIX" "$(files "$folder/here")" $'644 include/rows.h\n644 lib/libinstaller.a\n755 bin/rows'
-expect "PREFIX and DESTDIR" "$(files "$folder/image")" $'644 usr/include/rows.h\n644 usr/lib/libinstaller.a\n755 usr/bin/rows'
-expect "the program" "$("$folder/here/bin/rows" < tests/rows/texts/document-01.in)" "$(cat tests/rows/texts/document-01.out)"
+expect "PREFIX" "$(files "$folder/here")" $'644 include/rows.h\n644 lib/libinstaller.a\n755 bin/rows\n755 bin/sums'
+expect "PREFIX and DESTDIR" "$(files "$folder/image")" $'644 usr/include/rows.h\n644 usr/lib/libinstaller.a\n755 usr/bin/rows\n755 usr/bin/sums'
+for text in rows/texts/document-01 sums/texts/document-02; do
+    expect "the program ${text%%/*}" "$("$folder/here/bin/${text%%/*}" < "tests/$text.in")" "$(cat "tests/$text.out")"
+done
 
 # The examples, with the installed header and library, and as README says.
 for example in install read; do

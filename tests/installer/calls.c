@@ -1,4 +1,4 @@
-#include <stdio.h>
+#include <string.h>
 
 #include "client.h"
 
@@ -144,10 +144,9 @@ int32_t try_chart(size_t n, const uint8_t *cells, size_t table_len, size_t rows_
     return answer;
 }
 
-/* Whether a list is formed, right for the table, ascending by cube number, and has this many tested bits. Whether a shorter one exists is tested by
- * tests/minimum. */
-static int planned(size_t n, const uint8_t *table, const uint8_t *values, const uint8_t *cares, size_t rows, unsigned bits) {
-    int ok = verdict(n, table, values, cares, rows) == 0;
+/* Whether a list is formed, ascending by cube number, and has this many tested bits. Whether a shorter one exists is tested by tests/minimum. */
+static int listed(size_t n, const uint8_t *values, const uint8_t *cares, size_t rows, unsigned bits) {
+    int ok = 1;
     unsigned tested = 0;
     for (size_t i = 0; i < rows; i++) {
         struct row row = {values[i], cares[i]};
@@ -157,21 +156,39 @@ static int planned(size_t n, const uint8_t *table, const uint8_t *values, const 
     return ok && tested == bits;
 }
 
-int32_t try_plan(size_t n, const uint8_t *cells, size_t table_len, size_t values_len, size_t cares_len) {
+/* Whether an answer and the first rows of two arrays are those of the better of the two lists that rows_plan and rows_keep_out write. */
+static int is_better(size_t n, const uint8_t *table, int32_t answer, const uint8_t *values, const uint8_t *cares, size_t rows) {
+    uint8_t list_values[2][MOST_CODE_PAIRS], list_cares[2][MOST_CODE_PAIRS];
+    int32_t numbers[2];
+    for (size_t i = 0; i < 2; i++) {
+        numbers[i] = (i == 0 ? rows_plan : rows_keep_out)(n, table, power(2, n), list_values[i], MOST_CODE_PAIRS, list_cares[i], MOST_CODE_PAIRS);
+    }
+    size_t written = answer >= KEPT_OUT;
+    return answer == better_of(numbers[0], numbers[1]) && memcmp(values, list_values[written], rows) == 0 && memcmp(cares, list_cares[written], rows) == 0;
+}
+
+building *const builders[] = {rows_plan, rows_keep_out, rows_better};
+
+int32_t try_build(size_t builder, size_t n, const uint8_t *cells, size_t table_len, size_t values_len, size_t cares_len) {
+    static const char *const names[] = {"rows_plan", "rows_keep_out", "rows_better"};
     uint8_t *table = lend(0, cells, table_len), *values = lend_random(1, values_len), *cares = lend_random(2, cares_len);
     int k = refuses_table(n, cells, table_len);
     k = k ? k : values_len < power(2, n - 1) || cares_len < power(2, n - 1) ? 4 : 0;
-    calling = "rows_plan";
-    int32_t answer = rows_plan(n, table, table_len, values, values_len, cares, cares_len);
+    calling = names[builder];
+    int32_t answer = builders[builder](n, table, table_len, values, values_len, cares, cares_len);
     int right = kept(0, 0);
     if (k) {
         right = right && answer == -k && kept(1, 0) && kept(2, 0);
     } else {
-        size_t rows = (size_t)answer / 10000;
-        right = right && answer >= 0 && rows <= power(2, n - 1) && kept(1, rows) && kept(2, rows);
-        right = right && planned(n, cells, values, cares, rows, (unsigned)answer % 10000);
+        int keep_out = builder == KEEP_OUT || (builder == BETTER && answer >= KEPT_OUT);
+        int32_t number = builder == BETTER && keep_out ? answer - KEPT_OUT : answer;
+        size_t rows = (size_t)number / 10000;
+        right = right && number >= 0 && rows <= power(2, n - 1) && kept(1, rows) && kept(2, rows);
+        right = right && listed(n, values, cares, rows, (unsigned)number % 10000);
+        right = right && (keep_out ? keeps_out(n, cells, values, cares, rows) : verdict(n, cells, values, cares, rows) == 0);
+        right = right && (builder != BETTER || is_better(n, cells, answer, values, cares, rows));
     }
-    expect(right, "rows_plan(%zu, %s, %zu and %zu places): %d, refusal expected: %d", n, text(cells, table_len), values_len, cares_len, answer, -k);
+    expect(right, "%s(%zu, %s, %zu and %zu places): %d, refusal expected: %d", names[builder], n, text(cells, table_len), values_len, cares_len, answer, -k);
     return answer;
 }
 

@@ -1,6 +1,6 @@
-/* A client of the library as the installer would write it. It tries every edge of document 01 through C, and of document 02 those of Read and of Plan's places.
- * Each answer, and every byte of lent memory, is compared with a few lines of C that share no code with the product (../meanings.c). Prints each failure, and at
- * the end 'N passed, 0 failed'. */
+/* A client of the library as the installer would write it. It tries every edge of document 01 through C, and of document 02 those of Read, of Plan's places and
+ * of keep-out lists. Each answer, and every byte of lent memory, is compared with a few lines of C that share no code with the product (../meanings.c). Prints
+ * each failure, and at the end 'N passed, 0 failed'. */
 #include <stdio.h>
 
 #include "client.h"

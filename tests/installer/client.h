@@ -25,23 +25,28 @@ void *lend_random(size_t which, size_t bytes);
 /* Whether everything but the first `used` bytes of that array is as it was lent. */
 int kept(size_t which, size_t used);
 
-/* calls.c: one call each, whose answer and lent memory are compared with what document 01 says, and document 02 of Read and of Plan's places. They return what
- * the call returned. */
+/* calls.c: one call each, whose answer and lent memory are compared with what document 01 says, and document 02 of Read, of Plan's places and of keep-out
+ * lists. They return what the call returned. */
 int32_t try_spell(size_t n, size_t cube);
 int32_t try_cells(size_t n, size_t cube, size_t codes_len);
 int32_t try_primes(size_t n, const uint8_t *table, size_t table_len, size_t cubes_len);
 int32_t try_chart(size_t n, const uint8_t *table, size_t table_len, size_t rows_len);
 int32_t try_essentials(size_t n, const uint8_t *table, size_t table_len, size_t cubes_len);
-int32_t try_plan(size_t n, const uint8_t *table, size_t table_len, size_t values_len, size_t cares_len);
 int32_t try_check(size_t n, const uint8_t *table, size_t table_len, const uint8_t *values, size_t values_len, const uint8_t *cares, size_t cares_len);
 int32_t try_write(size_t n, const uint8_t *values, size_t values_len, const uint8_t *cares, size_t cares_len, size_t file_len);
 int32_t try_read(const uint8_t *file, size_t file_len, size_t values_len, size_t cares_len);
+
+/* The calls that write a list for a table. They are lent the same, and refuse the same. */
+enum { PLAN, KEEP_OUT, BETTER, BUILDERS };
+extern building *const builders[BUILDERS];
+
+int32_t try_build(size_t builder, size_t n, const uint8_t *table, size_t table_len, size_t values_len, size_t cares_len);
 
 /* client.c: the widths 1 to 6, then numbers that are not widths. */
 extern const size_t widths[];
 extern const size_t width_count;
 
-/* The number where it is a width, and 6 where it is not; the codes, the pairs of codes and the cubes of that width. Plan needs a place for each pair. */
+/* The number where it is a width, and 6 where it is not; the codes, the pairs of codes and the cubes of that width. A list needs a place for each pair. */
 size_t width_or_6(size_t n);
 size_t codes(size_t n);
 size_t code_pairs(size_t n);
@@ -53,7 +58,7 @@ struct row damaged_row(size_t n);
 
 #define LENGTH(array) (sizeof(array) / sizeof((array)[0]))
 
-/* What is tried. cubes.c: Spell and Cells. tables.c: Primes, Chart, Essentials and Plan. lists.c: Check and Write. files.c: Read.
+/* What is tried. cubes.c: Spell and Cells. tables.c: Primes, Chart, Essentials and the calls that write a list. lists.c: Check and Write. files.c: Read.
  * edges.c: the sentences of "Codes at the edge" and the cases a to j, by their numbers in document 01, the tables that fill all places, and very long
  * arrays. */
 void every_cube(void);

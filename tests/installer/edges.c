@@ -10,6 +10,20 @@ static uint8_t wanted[128], barred[128], rows[300];
 /* A call that must answer this number, and be right in everything else. */
 static void answers(const char *sentence, int32_t answer, int32_t want) { expect(answer == want, "%s: %d, expected %d", sentence, answer, want); }
 
+/* The answers of the calls that write a list: Plan, the keep-out call and the call that writes the better list. */
+struct built {
+    int32_t answers[BUILDERS];
+};
+
+static struct built each(int32_t answer) { return (struct built){{answer, answer, answer}}; }
+
+/* The calls that write a list must answer these numbers. */
+static void builds(const char *sentence, size_t n, const uint8_t *cells, size_t len, size_t values_len, size_t cares_len, struct built want) {
+    for (size_t b = 0; b < BUILDERS; b++) {
+        answers(sentence, try_build(b, n, cells, len, values_len, cares_len), want.answers[b]);
+    }
+}
+
 /* Every call at one width that is refused, the rest being as it should be at width 6, or at that width where it has a table. */
 static void width_refused(size_t n, size_t cells) {
     char sentence[40];
@@ -19,13 +33,14 @@ static void width_refused(size_t n, size_t cells) {
     answers(sentence, try_primes(n, wanted, cells, 3000), -1);
     answers(sentence, try_chart(n, wanted, cells, 800), -1);
     answers(sentence, try_essentials(n, wanted, cells, 3000), -1);
-    answers(sentence, try_plan(n, wanted, cells, 300, 300), -1);
+    builds(sentence, n, wanted, cells, 300, 300, each(-1));
     answers(sentence, try_check(n, wanted, cells, rows, 1, rows, 1), -1);
     answers(sentence, try_write(n, rows, 1, rows, 1, 600), -1);
     answers(sentence, try_read((uint8_t[]){(uint8_t)n, 1, 0, 0}, 4, 300, 300), -1);
 }
 
-/* Every call at a width that is accepted, with the least memory that will do. Every code is wanted: one row that tests nothing matches them. */
+/* Every call at a width that is accepted, with the least memory that will do. Every code is wanted: one row that tests nothing matches them, and no code is to
+ * be kept out. Where every code is barred it is the other way round. */
 static void width_accepted(size_t n, size_t codes, size_t cubes) {
     char sentence[40];
     snprintf(sentence, sizeof sentence, "width %zu does not refuse", n);
@@ -34,36 +49,42 @@ static void width_accepted(size_t n, size_t codes, size_t cubes) {
     answers(sentence, try_primes(n, wanted, codes, cubes), 1);
     answers(sentence, try_chart(n, wanted, codes, cubes), 1);
     answers(sentence, try_essentials(n, wanted, codes, cubes), 1);
-    answers(sentence, try_plan(n, wanted, codes, codes / 2, codes / 2), 10000);
+    builds(sentence, n, wanted, codes, codes / 2, codes / 2, (struct built){{10000, 0, KEPT_OUT}});
+    builds(sentence, n, barred, codes, codes / 2, codes / 2, (struct built){{0, 10000, 0}});
     answers(sentence, try_check(n, wanted, codes, rows, 1, rows, 1), 0);
     answers(sentence, try_write(n, rows, 1, rows, 1, 4), 4);
     answers(sentence, try_read((uint8_t[]){(uint8_t)n, 1, 0, 0}, 4, 1, 1), 100000 * (int32_t)n + 1);
 }
 
 /* A table that every call on a table refuses, or none does, with enough places. */
-static void table(const char *sentence, const uint8_t *cells, size_t len, int32_t primes, int32_t essentials, int32_t plan, int32_t check) {
+static void table(const char *sentence, const uint8_t *cells, size_t len, int32_t primes, int32_t essentials, struct built lists, int32_t check) {
     answers(sentence, try_primes(6, cells, len, 729), primes);
     answers(sentence, try_chart(6, cells, len, 729), primes);
     answers(sentence, try_essentials(6, cells, len, 729), essentials);
-    answers(sentence, try_plan(6, cells, len, 32, 32), plan);
+    builds(sentence, 6, cells, len, 32, 32, lists);
     answers(sentence, try_check(6, cells, len, rows, 0, rows, 0), check);
 }
 
 static void cells_at_the_edge(void) {
     uint8_t cells[64];
-    table("63 cells refuse", wanted, 63, -2, -2, -2, -2);
-    table("65 cells refuse", wanted, 65, -2, -2, -2, -2);
+    table("63 cells refuse", wanted, 63, -2, -2, each(-2), -2);
+    table("65 cells refuse", wanted, 65, -2, -2, each(-2), -2);
     for (size_t c = 0; c < 64; c++) {
         memset(cells, 0, 64);
         cells[c] = 2;
-        table("cell 2 passes", cells, 64, 0, 0, 0, 0);
+        table("cell 2 passes", cells, 64, 0, 0, (struct built){{0, 10000, 0}}, 0);
         cells[c ^ 1] = 1;
-        table("cell 2 is free", cells, 64, 1, 1, 10005, 1 + (int32_t)(c ^ 1));
+        table("cell 2 is free", cells, 64, 1, 1, (struct built){{10005, 50005, 10005}}, 1 + (int32_t)(c ^ 1));
         cells[c ^ 1] = 0;
         cells[c] = 3;
-        table("cell 3 refuses", cells, 64, -3, -3, -3, -3);
+        table("cell 3 refuses", cells, 64, -3, -3, each(-3), -3);
         cells[c] = 1;
-        table("one wanted code", cells, 64, 1, 1, 10006, 1 + (int32_t)c);
+        table("one wanted code", cells, 64, 1, 1, (struct built){{10006, 60006, 10006}}, 1 + (int32_t)c);
+        memset(cells, 1, 64);
+        cells[c] = 0;
+        table("one barred code", cells, 64, 6, 6, (struct built){{60006, 10006, KEPT_OUT + 10006}}, 1 + (c == 0));
+        cells[c ^ 1] = 2;
+        table("one barred code and a free one", cells, 64, 6, 5, (struct built){{50005, 10005, KEPT_OUT + 10005}}, 1 + 2 * (c < 2));
     }
 }
 
@@ -146,12 +167,12 @@ void edges(void) {
     answers("number 728 spells", try_spell(6, 728), 0);
     answers("number 729 refuses", try_spell(6, 729), -8);
     answers("number 729 refuses", try_cells(6, 729, 64), -8);
-    answers("Plan arrays of 31 refuse", try_plan(6, wanted, 64, 31, 32), -4);
-    answers("Plan arrays of 31 refuse", try_plan(6, wanted, 64, 32, 31), -4);
-    answers("Plan arrays of 32 pass", try_plan(6, wanted, 64, 32, 32), 10000);
-    answers("0 places refuse at width 1", try_plan(1, wanted, 2, 0, 1), -4);
-    answers("0 places refuse at width 1", try_plan(1, wanted, 2, 1, 0), -4);
-    answers("1 place passes at width 1", try_plan(1, wanted, 2, 1, 1), 10000);
+    builds("arrays of 31 refuse", 6, wanted, 64, 31, 32, each(-4));
+    builds("arrays of 31 refuse", 6, wanted, 64, 32, 31, each(-4));
+    builds("arrays of 32 pass", 6, wanted, 64, 32, 32, (struct built){{10000, 0, KEPT_OUT}});
+    builds("0 places refuse at width 1", 1, wanted, 2, 0, 1, each(-4));
+    builds("0 places refuse at width 1", 1, wanted, 2, 1, 0, each(-4));
+    builds("1 place passes at width 1", 1, wanted, 2, 1, 1, (struct built){{10000, 0, KEPT_OUT}});
     cells_at_the_edge();
     lists_at_the_edge();
     files_at_the_edge();
@@ -160,47 +181,51 @@ void edges(void) {
 struct example {
     const char *name, *cells;
     size_t n;
-    int primes, essentials, rows, bits;
+    int primes, essentials;
+    struct built lists;
 };
 
+/* The cases a to j, with the numbers of their keep-out lists; the last one has an ordinary list of fewer rows and more bits than its keep-out list. */
 static const struct example examples[] = {
-    {"a", "00", 1, 0, 0, 0, 0},
-    {"b", "11", 1, 1, 1, 1, 0},
-    {"c", "0201", 2, 1, 1, 1, 1},
-    {"d", "1002", 2, 1, 1, 1, 2},
-    {"e", "01111110", 3, 6, 0, 3, 6},
-    {"f", "0000000101101111", 4, 4, 4, 4, 11},
-    {"g", "1111101111010001", 4, 6, 3, 3, 6},
-    {"h", "1100000011100000", 4, 2, 2, 2, 5},
-    {"i", "1111011010010000", 4, 5, 4, 4, 12},
-    {"j", "1110011101110111", 4, 8, 0, 4, 9},
+    {"a", "00", 1, 0, 0, {{0, 10000, 0}}},
+    {"b", "11", 1, 1, 1, {{10000, 0, KEPT_OUT}}},
+    {"c", "0201", 2, 1, 1, {{10001, 10001, 10001}}},
+    {"d", "1002", 2, 1, 1, {{10002, 20002, 10002}}},
+    {"e", "01111110", 3, 6, 0, {{30006, 20006, KEPT_OUT + 20006}}},
+    {"f", "0000000101101111", 4, 4, 4, {{40011, 40010, KEPT_OUT + 40010}}},
+    {"g", "1111101111010001", 4, 6, 3, {{30006, 30009, 30006}}},
+    {"h", "1100000011100000", 4, 2, 2, {{20005, 30005, 20005}}},
+    {"i", "1111011010010000", 4, 5, 4, {{40012, 40012, 40012}}},
+    {"j", "1110011101110111", 4, 8, 0, {{40009, 30010, KEPT_OUT + 30010}}},
+    {"fewer rows and more bits", "00010010", 3, 2, 2, {{20006, 30005, 20006}}},
 };
 
-/* The tables whose list has the most rows: the codes with an odd number of ones are wanted, or those with an even number. All places are filled, and with one
- * fewer in either array or in both Plan refuses. */
+/* The tables whose lists have the most rows: the codes with an odd number of ones are wanted, or those with an even number. All places are filled, by each call
+ * that writes a list, and with one fewer in either array or in both it refuses. */
 void filled_places(void) {
     uint8_t cells[MOST_CODES];
     for (size_t n = 1; n <= WIDEST; n++) {
         size_t most = code_pairs(n);
+        struct built filled = each((int32_t)(10000 * most + n * most)), refused = each(-4);
         for (unsigned odd = 0; odd < 2; odd++) {
             for (unsigned c = 0; c < codes(n); c++) {
                 cells[c] = ones(c) % 2 == odd;
             }
-            answers("the most rows", try_plan(n, cells, codes(n), most, most), (int32_t)(10000 * most + n * most));
-            answers("the most rows, and twice the places", try_plan(n, cells, codes(n), 2 * most, 2 * most), (int32_t)(10000 * most + n * most));
-            answers("a place fewer for values", try_plan(n, cells, codes(n), most - 1, most), -4);
-            answers("a place fewer for cares", try_plan(n, cells, codes(n), most, most - 1), -4);
-            answers("a place fewer for both", try_plan(n, cells, codes(n), most - 1, most - 1), -4);
+            builds("the most rows", n, cells, codes(n), most, most, filled);
+            builds("the most rows, and twice the places", n, cells, codes(n), 2 * most, 2 * most, filled);
+            builds("a place fewer for values", n, cells, codes(n), most - 1, most, refused);
+            builds("a place fewer for cares", n, cells, codes(n), most, most - 1, refused);
+            builds("a place fewer for both", n, cells, codes(n), most - 1, most - 1, refused);
         }
     }
 }
 
-/* The calls on a table of free codes and a few others: how many primes match a wanted code, which are the chart's rows, how many are essential, and Plan. */
-static void free_table(const char *sentence, size_t n, const uint8_t *cells, int32_t primes, int32_t essentials, int32_t plan) {
+/* The calls on a table of free codes and a few others: how many primes match a wanted code, which are the chart's rows, how many are essential, and lists. */
+static void free_table(const char *sentence, size_t n, const uint8_t *cells, int32_t primes, int32_t essentials, struct built lists) {
     answers(sentence, try_primes(n, cells, codes(n), cubes(n)), primes);
     answers(sentence, try_chart(n, cells, codes(n), cubes(n)), primes);
     answers(sentence, try_essentials(n, cells, codes(n), cubes(n)), essentials);
-    answers(sentence, try_plan(n, cells, codes(n), code_pairs(n), code_pairs(n)), plan);
+    builds(sentence, n, cells, codes(n), code_pairs(n), code_pairs(n), lists);
 }
 
 /* Primes that match free codes alone are not listed. With one barred code the primes test a bit each, for every bit the other value than that code's; those that
@@ -209,26 +234,25 @@ void free_codes(void) {
     uint8_t cells[MOST_CODES];
     for (size_t n = 1; n <= WIDEST; n++) {
         memset(cells, 2, sizeof cells);
-        free_table("all codes free", n, cells, 0, 0, 0);
+        free_table("all codes free", n, cells, 0, 0, each(0));
         for (size_t wanted = 0; wanted < codes(n); wanted++) {
             cells[wanted] = 1;
-            free_table("one wanted code among free ones", n, cells, 1, 1, 10000);
+            free_table("one wanted code among free ones", n, cells, 1, 1, (struct built){{10000, 0, KEPT_OUT}});
             for (size_t barred = 0; barred < codes(n); barred++) {
                 int32_t differ = (int32_t)ones(wanted ^ barred);
                 if (differ > 0) {
                     cells[barred] = 0;
-                    free_table("one wanted and one barred code among free ones", n, cells, differ, differ == 1, 10001);
+                    free_table("one wanted and one barred code among free ones", n, cells, differ, differ == 1, each(10001));
                     cells[barred] = 2;
                 }
             }
             cells[wanted] = 0;
-            free_table("one barred code among free ones", n, cells, 0, 0, 0);
+            free_table("one barred code among free ones", n, cells, 0, 0, (struct built){{0, 10000, 0}});
             cells[wanted] = 2;
         }
     }
 }
 
-/* The cases a to j. */
 void cases(void) {
     uint8_t cells[16];
     for (size_t i = 0; i < sizeof examples / sizeof examples[0]; i++) {
@@ -240,7 +264,7 @@ void cases(void) {
         answers(e->name, try_primes(e->n, cells, codes, 81), e->primes);
         answers(e->name, try_chart(e->n, cells, codes, 81), e->primes);
         answers(e->name, try_essentials(e->n, cells, codes, 81), e->essentials);
-        answers(e->name, try_plan(e->n, cells, codes, codes / 2, codes / 2), 10000 * e->rows + e->bits);
+        builds(e->name, e->n, cells, codes, codes / 2, codes / 2, e->lists);
     }
 }
 
@@ -255,10 +279,11 @@ void long_arrays(void) {
     uint8_t *second = large + half, zeros[64] = {0}, file[300], other[32], one_row[] = {6, 1, 0, 0}, two_rows[] = {6, 2, 0, 0, 0, 0};
     uint16_t cubes[729];
     struct rows_chart_row chart[729];
+    uint8_t halves[64] = {0}; /* a row for each half, of one bit */
+    memset(halves + 32, 1, 32);
     answers("2^32 + 64 cells", rows_primes(6, large, more + 64, cubes, 729), -2);
     answers("2^32 + 64 cells", rows_chart(6, large, more + 64, chart, 729), -2);
     answers("2^32 + 64 cells", rows_essentials(6, large, more + 64, cubes, 729), -2);
-    answers("2^32 + 64 cells", rows_plan(6, large, more + 64, file, 32, other, 32), -2);
     answers("2^32 + 64 cells", rows_check(6, large, more + 64, zeros, 1, rows, 1), -2);
     answers("2^32 + 1 values, one care", rows_check(6, barred, 64, large, more + 1, zeros, 1), -5);
     answers("2^32 + 1 values, one care", rows_write(6, large, more + 1, zeros, 1, file, 300), -5);
@@ -269,8 +294,6 @@ void long_arrays(void) {
     answers("2^32 + 1 places for codes", rows_cells(6, 728, large, more + 1), 64);
     answers("2^32 + 1 places for primes", rows_primes(6, wanted, 64, (uint16_t *)large, more + 1), 1);
     answers("2^32 + 1 places for essentials", rows_essentials(6, wanted, 64, (uint16_t *)large, more + 1), 1);
-    answers("2^32 + 1 places for values", rows_plan(6, wanted, 64, large, more + 1, other, 32), 10000);
-    answers("2^32 + 1 places for cares", rows_plan(6, wanted, 64, other, 32, large, more + 1), 10000);
     answers("2^32 + 1 bytes for a file", rows_write(6, zeros, 1, rows, 1, large, more + 1), 4);
     answers("2^32 + 1 places for what is read", rows_read(two_rows, 6, large, more + 1, other, 2), 600002);
     answers("2^32 + 1 places for what is read", rows_read(two_rows, 6, other, 2, large, more + 1), 600002);
@@ -278,5 +301,10 @@ void long_arrays(void) {
     memcpy(large, one_row, 4);
     answers("a row in 4 bytes", rows_read(large, 4, file, 300, other, 32), 600001);
     answers("a row in 2^32 + 4 bytes", rows_read(large, more + 4, file, 300, other, 32), -10);
+    for (size_t b = 0; b < BUILDERS; b++) {
+        answers("2^32 + 64 cells", builders[b](6, large, more + 64, file, 32, other, 32), -2);
+        answers("2^32 + 1 places for values", builders[b](6, halves, 64, large, more + 1, other, 32), 10001);
+        answers("2^32 + 1 places for cares", builders[b](6, halves, 64, other, 32, large, more + 1), 10001);
+    }
     munmap(large, 2 * half);
 }

@@ -1,11 +1,18 @@
 #include "client.h"
 
+/* The calls that write a list, each with these places. */
+static void try_builders(size_t n, const uint8_t *table, size_t table_len, size_t values_len, size_t cares_len) {
+    for (size_t b = 0; b < BUILDERS; b++) {
+        try_build(b, n, table, table_len, values_len, cares_len);
+    }
+}
+
 /* The calls on one table, with the least memory that will do or a little more. */
 static void try_table(size_t n, const uint8_t *table) {
     try_primes(n, table, codes(n), cubes(n) + random_below(3));
     try_chart(n, table, codes(n), cubes(n) + random_below(3));
     try_essentials(n, table, codes(n), cubes(n) + random_below(3));
-    try_plan(n, table, codes(n), code_pairs(n) + random_below(3), code_pairs(n) + random_below(3));
+    try_builders(n, table, codes(n), code_pairs(n) + random_below(3), code_pairs(n) + random_below(3));
 }
 
 /* Every table of widths 1 to 3. */
@@ -34,7 +41,7 @@ void random_tables(void) {
     }
 }
 
-/* Every number of places for the cubes, and for each of Plan's arrays. */
+/* Every number of places for the cubes, and for each of a list's arrays. */
 void places_for_tables(void) {
     uint8_t table[MOST_CODES];
     for (size_t n = 1; n <= WIDEST; n++) {
@@ -45,8 +52,8 @@ void places_for_tables(void) {
             try_essentials(n, table, codes(n), len);
         }
         for (size_t len = 0; len < codes(n) + 3; len++) {
-            try_plan(n, table, codes(n), len, code_pairs(n));
-            try_plan(n, table, codes(n), code_pairs(n), len);
+            try_builders(n, table, codes(n), len, code_pairs(n));
+            try_builders(n, table, codes(n), code_pairs(n), len);
         }
     }
 }
@@ -62,7 +69,7 @@ static void try_places(size_t n, const uint8_t *table, size_t table_len) {
     }
     for (size_t i = 0; i < LENGTH(for_rows); i++) {
         for (size_t j = 0; j < LENGTH(for_rows); j++) {
-            try_plan(n, table, table_len, for_rows[i], for_rows[j]);
+            try_builders(n, table, table_len, for_rows[i], for_rows[j]);
         }
     }
 }

@@ -2,10 +2,11 @@
  *   - for every table of widths 1, 2 and 3, by trying every set of at most 2^(n-1) cubes;
  *   - for random tables of widths 1 to 6 with at most 16 wanted codes, by the sets of wanted codes;
  *   - for the tables of the files given, whose rows and bits are known, each within the given number of seconds of processor time.
+ * rows_keep_out must find the same for the table with wanted and barred exchanged, and rows_better must write the better of what the two write for one table.
  * Each list is tried on all codes, and checked by rows_check. All this is done with the stack that rows.h asks for, 1 MB, and memory behind it that nobody may
  * touch. Prints each failure, and at the end 'N passed, 0 failed'.
  *
- *     compare FILE COUNT SECONDS ..       files of tables, how many tables each has, and the time for one */
+ *     compare FILE COUNT SECONDS ..       files of tables, how many tables each has, and the time for one call */
 #include <pthread.h>
 #include <stdio.h>
 #include <stdlib.h>
@@ -17,13 +18,13 @@
 
 static long passed, failed;
 
-static void count(int ok, const char *what, size_t n, const uint8_t *table) {
+static void count(int ok, const char *call, const char *what, size_t n, const uint8_t *table) {
     if (ok) {
         passed++;
         return;
     }
     failed++;
-    printf("%s: %zu ", what, n);
+    printf("%s: %s: %zu ", call, what, n);
     for (size_t c = 0; c < power(2, n); c++) {
         putchar("01-"[table[c]]);
     }
@@ -59,9 +60,11 @@ static void list_implicants(size_t n, const uint8_t *table) {
     }
 }
 
-/* 10000 * rows + bits of the best list, by the sets of wanted codes: the lowest code that is left takes an implicant. */
+/* 10000 * rows + bits of the best list, by the sets of wanted codes, of which there are few: the lowest code that is left takes an implicant. */
+enum { MOST_WANTED = 16 };
+
 static int32_t by_sets(void) {
-    static int32_t best[1 << 16];
+    static int32_t best[1 << MOST_WANTED];
     best[0] = 0;
     for (uint64_t left = 1; left < (uint64_t)1 << wanted_count; left++) {
         uint64_t low = left & -left;
@@ -98,49 +101,119 @@ static double seconds(void) {
     return (double)now.tv_sec + 1e-9 * (double)now.tv_nsec;
 }
 
-/* Plans a table: the list must have this number, be right, and be formed. */
-static void plan(size_t n, const uint8_t *table, int32_t number) {
+static void exchange(size_t n, const uint8_t *table, uint8_t *exchanged) {
+    for (size_t c = 0; c < power(2, n); c++) {
+        exchanged[c] = table[c] == 2 ? 2 : 1 - table[c];
+    }
+}
+
+/* What a call answered, and both arrays. Before the call they hold 200 and up, which are no values and no cares. */
+struct list {
+    int32_t answer;
     uint8_t values[MOST_CODE_PAIRS], cares[MOST_CODE_PAIRS];
-    size_t codes = power(2, n), pairs = power(2, n - 1);
-    memset(values, 255, sizeof values);
-    memset(cares, 255, sizeof cares);
+};
+
+static struct list build(building *call, size_t n, const uint8_t *table) {
+    struct list list;
+    for (size_t i = 0; i < MOST_CODE_PAIRS; i++) {
+        list.values[i] = list.cares[i] = (uint8_t)(200 + i);
+    }
     double start = seconds();
-    int32_t answer = rows_plan(n, table, codes, values, pairs, cares, pairs);
+    list.answer = call(n, table, power(2, n), list.values, power(2, n - 1), list.cares, power(2, n - 1));
     double took = seconds() - start;
     slowest = took > slowest ? took : slowest;
-    count(answer == number, "another number of rows and bits", n, table);
-    count(answer / 10000 <= (int32_t)pairs, "more rows than pairs of codes", n, table);
-    size_t rows = answer < 0 || answer / 10000 > (int32_t)pairs ? 0 : (size_t)answer / 10000;
+    return list;
+}
+
+/* The number of a shortest list where no program has found it. */
+enum { UNKNOWN = -1 };
+
+/* A list that rows_plan or rows_keep_out writes for a table: it must have this number, be right, and be formed, and what is behind it must be as it was. */
+static struct list shortest(int keep_out, size_t n, const uint8_t *table, int32_t number) {
+    const char *call = keep_out ? "rows_keep_out" : "rows_plan";
+    struct list list = build(keep_out ? rows_keep_out : rows_plan, n, table);
+    size_t pairs = power(2, n - 1);
+    count(list.answer >= 0 && (number == UNKNOWN || list.answer == number), call, "another number of rows and bits", n, table);
+    count(list.answer / 10000 <= (int32_t)pairs, call, "more rows than pairs of codes", n, table);
+    size_t rows = list.answer < 0 || list.answer / 10000 > (int32_t)pairs ? 0 : (size_t)list.answer / 10000;
     int32_t bits = 0;
     for (size_t i = 0; i < rows; i++) {
-        bits += (int32_t)ones(cares[i]);
+        bits += (int32_t)ones(list.cares[i]);
     }
-    count(answer >= 0 && bits == answer % 10000, "other bits than answered", n, table);
-    count(verdict(n, table, values, cares, rows) == 0, "a list that is not right", n, table);
-    count(rows_check(n, table, codes, values, rows, cares, rows) == 0, "a list that Check does not pass", n, table);
+    int kept = 1;
+    for (size_t i = rows; i < MOST_CODE_PAIRS; i++) {
+        kept = kept && list.values[i] == 200 + i && list.cares[i] == 200 + i;
+    }
+    uint8_t exchanged[MOST_CODES];
+    exchange(n, table, exchanged);
+    int right = keep_out ? keeps_out(n, table, list.values, list.cares, rows) : verdict(n, table, list.values, list.cares, rows) == 0;
+    int32_t checked = rows_check(n, keep_out ? exchanged : table, power(2, n), list.values, rows, list.cares, rows);
+    count(list.answer >= 0 && bits == list.answer % 10000, call, "other bits than answered", n, table);
+    count(kept, call, "a place behind the list is changed", n, table);
+    count(right, call, "a list that is not right", n, table);
+    count(checked == 0, call, "a list that Check does not pass", n, table);
+    return list;
+}
+
+/* Both lists of a table, with these numbers, and the better of them: rows_better must answer and write what the call that writes it does, and nothing else. */
+static void both(size_t n, const uint8_t *table, int32_t number, int32_t keep_out_number) {
+    struct list plan = shortest(0, n, table, number), keep_out = shortest(1, n, table, keep_out_number), better = build(rows_better, n, table);
+    int32_t answer = better_of(plan.answer, keep_out.answer);
+    const struct list *list = answer < KEPT_OUT ? &plan : &keep_out;
+    int same = memcmp(better.values, list->values, MOST_CODE_PAIRS) == 0 && memcmp(better.cares, list->cares, MOST_CODE_PAIRS) == 0;
+    count(better.answer == answer, "rows_better", "another answer", n, table);
+    count(same, "rows_better", "other arrays", n, table);
+}
+
+/* A table whose shortest list has this number, and the same with wanted and barred exchanged, whose shortest list has the other: rows_plan on the one and
+ * rows_keep_out on the other, and both lists of the one and of the other in turn. */
+static void compare_table(size_t n, const uint8_t *table, int32_t number, int32_t other) {
+    static int turn;
+    uint8_t exchanged[MOST_CODES];
+    exchange(n, table, exchanged);
+    turn = !turn;
+    if (turn) {
+        both(n, table, number, other);
+        shortest(1, n, exchanged, number);
+    } else {
+        both(n, exchanged, other, number);
+        shortest(0, n, table, number);
+    }
+}
+
+/* The number of a shortest list, for a table of a small width. */
+static int32_t least_by_trying(size_t n, const uint8_t *table) {
+    list_implicants(n, table);
+    return by_trying(0, power(2, n - 1), ((uint64_t)1 << wanted_count) - 1);
 }
 
 static void all_tables(size_t n) {
-    uint8_t table[8];
+    uint8_t table[8], exchanged[8];
     for (size_t number = 0; number < power(3, power(2, n)); number++) {
         for (size_t c = 0, rest = number; c < power(2, n); c++, rest /= 3) {
             table[c] = (uint8_t)(rest % 3);
         }
-        list_implicants(n, table);
-        plan(n, table, by_trying(0, power(2, n - 1), ((uint64_t)1 << wanted_count) - 1));
+        exchange(n, table, exchanged);
+        both(n, table, least_by_trying(n, table), least_by_trying(n, exchanged));
     }
+}
+
+/* The number of a shortest list, for a table with at most MOST_WANTED wanted codes. */
+static int32_t least_by_sets(size_t n, const uint8_t *table) {
+    list_implicants(n, table);
+    return wanted_count > MOST_WANTED ? UNKNOWN : by_sets();
 }
 
 /* Random tables with at most `most` wanted codes. */
 static void random_tables(size_t n, size_t tables, size_t most) {
-    uint8_t table[MOST_CODES];
+    uint8_t table[MOST_CODES], exchanged[MOST_CODES];
     for (size_t t = 0; t < tables; t++) {
         random_table(n, table, 0, random_below(7));
         for (size_t i = 0; i < most; i++) {
             table[random_below(power(2, n))] = 1;
         }
-        list_implicants(n, table);
-        plan(n, table, by_sets());
+        exchange(n, table, exchanged);
+        compare_table(n, table, least_by_sets(n, table), least_by_sets(n, exchanged));
     }
 }
 
@@ -159,11 +232,11 @@ static int known_table(const char *line) {
     for (size_t c = 0; c < power(2, n); c++) {
         table[c] = (uint8_t)(cells[c] == '-' ? 2 : cells[c] - '0');
     }
-    plan(n, table, 10000 * rows + bits);
+    compare_table(n, table, 10000 * rows + bits, UNKNOWN);
     return 1;
 }
 
-/* The tables of a file, of which there must be this many, none slower than this. */
+/* The tables of a file, of which there must be this many, no call slower than this. */
 static void known_tables(const char *path, long expected, double most) {
     FILE *f = fopen(path, "r");
     if (f == NULL) {

@@ -1,5 +1,5 @@
 -- `keep_out::keep_out` meets its contract: it refuses as Plan does, or is Plan for the exchanged table. Assumes nothing.
-use mathlib.Core.Path.{_≡_, sym, subst, _∙_}
+use mathlib.Core.Path.{sym, subst, _∙_}
 use mathlib.Core.List.{List}
 use Prim.Native.Nat.{ℕ, _^_, _≤_}
 use native.Mathlib.Omega.{arith}
