@@ -124,7 +124,8 @@ int32_t rows_plan(size_t n, const uint8_t *table, size_t table_len, uint8_t *val
 
 /* A shortest keep-out list for the table, for chips that pass everything except what a row matches. It is
  * written as rows_plan writes its list, with wanted and barred exchanged: it matches every barred code and
- * no wanted one. No list that does so has fewer rows, and none with as many rows tests fewer bits.
+ * no wanted one. No list that does so has fewer rows, and none with as many rows tests fewer bits. Which
+ * of several equally good lists is written is left open.
  *
  * Answers and refuses as rows_plan does.
  */

@@ -20,8 +20,9 @@ use Rattle.plan.proofs.Theorems.{arrays-hold}
 use Rattle.keep_out.specs.KeepOut.{MayKeepOut}
 use Rattle.keep_out.specs.Theorems.{exchanged}
 use Rattle.keep_out.proofs.Exchanging.{exchange}
-use Rattle.better.specs.Better.{ordinary, keepOut, Choice, isBetter, choose, saidOf, Builds}
+use Rattle.better.specs.Better.{Kind, ordinary, keepOut, Choice, isBetter, choose, saidOf, builtAnswer, Builds}
 use Rattle.better.specs.Steps.{totalsIn, Copyable}
+use Rattle.better.specs.declared.Built.{Built}
 use Rattle.better.specs.declared.Built.the-variants.{Ordinary, KeepOut, Refused}
 
 -- a list that Plan may write stands in the first places of two arrays, and has these totals
@@ -104,30 +105,26 @@ module _ (n : ℕ) (t values cares : List ℕ) where
           (ap₂ isBetter (sym (k .totals-are)) (sym (l .totals-are)) ∙ e)
 
       module _ (values′ cares′ : List ℕ) where
-        pub keep-out-done : isBetter o a ≡ true → values′ ≡ written 0 (take (o .rows) ovs) values → cares′ ≡ written 0 (take (o .rows) ows) cares
-            → Builds n t values cares values′ cares′ (KeepOut (o .rows) (o .bits))
-        keep-out-done e v w = record {
+        -- the list that is chosen was copied
+        done : {u vs ws : List ℕ} {totals : Totals} (s : StandsIn n u vs ws totals) (kind : Kind) (r : Built) → both ≡ record { kind = kind; list = s .list }
+            → builtAnswer r ≡ gives (record { kind = kind; totals = totals }) → values′ ≡ written 0 (take (totals .rows) vs) values
+            → cares′ ≡ written 0 (take (totals .rows) ws) cares → Builds n t values cares values′ cares′ r
+        done s kind r chosen told v w = record {
           list = l .list;
           excluding = k .list;
           is-list = λ z. l .may;
           is-excluding = λ z. may-keep-out;
           answer =
-              ap (λ (x : Totals). gives (record { kind = keepOut; totals = x })) (k .totals-are)
-              ∙ ap₂ (λ (i : ℕ) (x : Choice). answered i (saidOf n x)) (sym none) (sym (choice true e));
-          values-are = v ∙ ap₂ (λ (i : ℕ) (x : List ℕ). written i x values) (sym none) (k .values-are ∙ ap (λ (x : Choice). valuesOf (x .list)) (sym (choice true e)));
-          cares-are = w ∙ ap₂ (λ (i : ℕ) (x : List ℕ). written i x cares) (sym none) (k .cares-are ∙ ap (λ (x : Choice). caresOf (x .list)) (sym (choice true e)));
+              told ∙ ap (λ (x : Totals). gives (record { kind = kind; totals = x })) (s .totals-are)
+              ∙ ap₂ (λ (i : ℕ) (x : Choice). answered i (saidOf n x)) (sym none) (sym chosen);
+          values-are = v ∙ ap₂ (λ (i : ℕ) (x : List ℕ). written i x values) (sym none) (s .values-are ∙ ap (λ (x : Choice). valuesOf (x .list)) (sym chosen));
+          cares-are = w ∙ ap₂ (λ (i : ℕ) (x : List ℕ). written i x cares) (sym none) (s .cares-are ∙ ap (λ (x : Choice). caresOf (x .list)) (sym chosen));
         }
+
+        pub keep-out-done : isBetter o a ≡ true → values′ ≡ written 0 (take (o .rows) ovs) values → cares′ ≡ written 0 (take (o .rows) ows) cares
+            → Builds n t values cares values′ cares′ (KeepOut (o .rows) (o .bits))
+        keep-out-done e = done k keepOut (KeepOut (o .rows) (o .bits)) (choice true e) refl
 
         pub ordinary-done : isBetter o a ≡ false → values′ ≡ written 0 (take (a .rows) lvs) values → cares′ ≡ written 0 (take (a .rows) lws) cares
             → Builds n t values cares values′ cares′ (Ordinary (a .rows) (a .bits))
-        ordinary-done e v w = record {
-          list = l .list;
-          excluding = k .list;
-          is-list = λ z. l .may;
-          is-excluding = λ z. may-keep-out;
-          answer =
-              ap (λ (x : Totals). gives (record { kind = ordinary; totals = x })) (l .totals-are)
-              ∙ ap₂ (λ (i : ℕ) (x : Choice). answered i (saidOf n x)) (sym none) (sym (choice false e));
-          values-are = v ∙ ap₂ (λ (i : ℕ) (x : List ℕ). written i x values) (sym none) (l .values-are ∙ ap (λ (x : Choice). valuesOf (x .list)) (sym (choice false e)));
-          cares-are = w ∙ ap₂ (λ (i : ℕ) (x : List ℕ). written i x cares) (sym none) (l .cares-are ∙ ap (λ (x : Choice). caresOf (x .list)) (sym (choice false e)));
-        }
+        ordinary-done e = done l ordinary (Ordinary (a .rows) (a .bits)) (choice false e) refl

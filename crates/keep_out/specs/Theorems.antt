@@ -1,5 +1,5 @@
 -- "with wanted and barred exchanged": a shortest keep-out list of a table is a shortest list of the table in which wanted and barred codes have changed
--- places, and the keep-out call is Plan for that table. `proofs/Theorems.antt` proves it. Assumes nothing.
+-- places, and the keep-out call is Plan for that table. `Exchanging` and `Theorems` of `proofs/` prove it. Assumes nothing.
 use mathlib.Core.Path.{_≡_}
 use mathlib.Core.Logic.{_↔_}
 use mathlib.Core.List.{List, map}
