@@ -5,9 +5,10 @@ use mathlib.Core.Logic.{⊎-elim}
 use mathlib.Core.List.{List, [], _∷_}
 use Prim.Native.Nat.{ℕ}
 use native.Mathlib.Omega.{arith}
+use lib.Dec.{lit<}
 use lib.ListN.{getD}
 use Rattle.numbers.specs.Below.{every}
-use Rattle.cube.specs.Words.{Cover, rowMatches, formed, eachRow, coverMatches, coverLiterals, ones, implements}
+use Rattle.cube.specs.Words.{Cover, rowMatches, formed, eachRow, coverMatches, rowsOf, coverLiterals, ones, implements}
 use Rattle.keep_out.proofs.Exchanging.{right-keeps}
 use Rattle.keep_out.proofs.Refuted.{all-but-zero, zero-alone, zero-kept-out}
 use Rattle.better.specs.Better.{Builds}
@@ -47,6 +48,12 @@ module _ (values cares values′ cares′ : List ℕ) where
   counts-of-the-other p =
       let h = better-held 2 all-but-zero values cares values′ cares′ .keep-out 2 2 p in
       ⊎-elim (λ l. omega (arith, h .held .row-count)) (λ e. omega (arith, e .0, h .held .row-count)) (h .minimum .least zero-alone zero-kept-out)
+
+  -- the keep-out list answered and a row of the ordinary one, 1-, written first: it does not match code 0
+  pub ordinary-row-written : Builds 2 all-but-zero values cares (2 ∷ values′) (2 ∷ cares′) (KeepOut 1 2) → ⊥
+  unfolding rowMatches coverMatches rowsOf
+  ordinary-row-written p =
+      better-held 2 all-but-zero values cares (2 ∷ values′) (2 ∷ cares′) .keep-out 1 2 p .minimum .keeps-out .every-barred 0 (lit< tt) tt
 
 -- both lists written, one over the other: the second row of the ordinary list, -1, is left behind the row 00
 pub one-over-the-other : Builds 2 all-but-zero (7 ∷ 7 ∷ []) (7 ∷ 7 ∷ []) (0 ∷ 1 ∷ []) (3 ∷ 1 ∷ []) (KeepOut 1 2) → ⊥
