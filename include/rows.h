@@ -31,8 +31,8 @@
  * so threads may call at the same time, each with its own arrays.
  *
  * A call needs stack: allow rows_plan, rows_keep_out and rows_better 1 MB. The most that was measured,
- * on x86-64, is 287 KB for rows_plan and 300 bytes more for the other two, 39 KB for rows_chart and 13 KB
- * for the other calls; no bound is proved.
+ * on x86-64, is 287 KB for rows_plan, 277 KB for the other two, which need some 300 bytes more than it in
+ * one program, 39 KB for rows_chart and 13 KB for the other calls; no bound is proved.
  *
  * Answers
  *
