@@ -7,7 +7,7 @@ use lib.ListN.{length}
 use Rattle.cube.specs.Words.{cubeLiterals, servingPrimesOf}
 use Rattle.cube.specs.Calls.{Listed}
 use Rattle.cube.specs.declared.Counted.{Counted}
-use Rattle.primes.specs.Primes.{primesRefuses}
+use Rattle.tables.specs.Listing.{primesRefuses}
 use Rattle.chart_arrays.specs.Columns.{columnsOf}
 use Rattle.chart.specs.declared.ChartRow.{ChartRow}
 

@@ -4,7 +4,7 @@ use Prim.Native.Nat.{ℕ, zero, suc, _^_, _≤_}
 use mathlib.Core.List.{List, [], _∷_, _++_}
 use lib.ListN.{getD}
 use Rattle.cube.specs.Calls.{widest}
-use Rattle.primes.specs.Primes.{primesRefuses}
+use Rattle.tables.specs.Listing.{primesRefuses}
 use Rattle.chart_arrays.specs.declared.Arrays.{Arrays}
 use Rattle.chart.specs.Rows.{chartOf}
 use Rattle.chart.specs.declared.ChartRow.{ChartRow}

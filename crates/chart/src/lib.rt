@@ -56,7 +56,7 @@ struct Prepared {
 fn prepare(n: usize, table: &[u8], places: usize) -> Prepared
     ensures { λ r. ⌜ Prepares n (now (table .entry)) places r ⌝ }
 {
-    let k = primes::listing_refusal(n, table, places);
+    let k = tables::listing_refusal(n, table, places);
     if k != 0 {
         return Prepared {
             refusal: k,

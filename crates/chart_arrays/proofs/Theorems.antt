@@ -9,9 +9,9 @@ use borrow.Author.Tests.{lt-ltb}
 use Rattle.numbers.specs.Below.{flag}
 use Rattle.cube.specs.Words.{onSet, cubeMatches, prime, serves, servingPrime, column}
 use Rattle.numbers.proofs.Bools.{and-l, and-r}
+use Rattle.numbers.proofs.Bits.{word-lt, word-some, bit-word}
 use Rattle.chart_arrays.specs.Columns.{columnsOf}
 use Rattle.chart_arrays.specs.Theorems.{WordTells}
-use Rattle.chart_arrays.proofs.Columns.{word-lt, word-some, bit-word}
 
 one-holds : (b : Bool) → flag b ≡ 1 → T b
 one-holds true e = tt

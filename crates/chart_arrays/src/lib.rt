@@ -6,11 +6,11 @@ use spelling::MOST_CUBES;
 ghost use mathlib.Core.Path.{_≡_};
 ghost use Prim.Native.Nat.{ℕ, _+_, _*_, _<_, _≤_, _^_};
 ghost use lib.ListN.{length, getD};
-ghost use Rattle.numbers.specs.Below.{flag};
+ghost use Rattle.numbers.specs.Below.{flag, wordOf};
 ghost use Rattle.cube.specs.Calls.{widest};
 ghost use Rattle.cube.specs.Words.{tested, digit, cubeLiterals};
 ghost use Rattle.matrix.specs.Sets.{columnLimit};
-ghost use Rattle.chart_arrays.specs.Columns.{wordOf, columnsOf};
+ghost use Rattle.chart_arrays.specs.Columns.{columnsOf};
 ghost use Rattle.chart_arrays.specs.Steps.{rowColumn, CodeNext, IsChart, Chartable};
 
 // The word with bit c, if code c is wanted and the row matches it.

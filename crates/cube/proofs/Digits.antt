@@ -236,6 +236,31 @@ contained-literals (suc n) q p h =
     last e d (inl x) = omega (arith, is-untested e x)
     last e d (inr x) = omega (arith, ap (λ (i : ℕ). flag (tested i)) x)
 
+-- and one that tests as many is the same
+same-step : (n q p : ℕ) → q < 3 ^ suc n → p < 3 ^ suc n → T (contained (suc n) q p) → cubeLiterals (suc n) q ≤ cubeLiterals (suc n) p
+    → (cubeLiterals n (q / 3) ≤ cubeLiterals n (p / 3) → q / 3 ≡ p / 3) → q ≡ p
+unfolding cubeLiterals
+same-step n q p l m h f ih = go (fits-e (p % 3) (q % 3) (contained-last n q p h)) (three (q % 3) (last-lt q))
+  where
+    alike : p % 3 ≡ q % 3 → q ≡ p
+    alike x = let r : q / 3 ≡ p / 3 = ih (omega (arith, ap (λ (i : ℕ). flag (tested i)) x)) in omega arith
+
+    dashed : p % 3 ≡ 2 → (q % 3 ≡ 2 → ⊥) → q ≡ p
+    dashed x ne =
+        absurd (omega (arith, contained-literals n (q / 3) (p / 3) (contained-rest n q p h), is-untested (p % 3) x, is-tested (q % 3) ne))
+
+    go : (p % 3 ≡ 2) ⊎ (p % 3 ≡ q % 3) → (q % 3 ≡ 0) ⊎ ((q % 3 ≡ 1) ⊎ (q % 3 ≡ 2)) → q ≡ p
+    go (inr x) d = alike x
+    go (inl x) (inl d) = dashed x (λ y. omega arith)
+    go (inl x) (inr (inl d)) = dashed x (λ y. omega arith)
+    go (inl x) (inr (inr d)) = alike (omega arith)
+
+pub contained-same : (n q p : ℕ) → q < 3 ^ n → p < 3 ^ n → T (contained n q p) → cubeLiterals n q ≤ cubeLiterals n p → q ≡ p
+contained-same zero q p l m h f = let e : 3 ^ 0 ≡ 1 = refl in omega arith
+contained-same (suc n) q p l m h f =
+    let e : 3 ^ suc n ≡ 3 ^ n * 3 = pow-suc 3 n in
+    same-step n q p l m h f (λ g. contained-same n (q / 3) (p / 3) (omega arith) (omega arith) (contained-rest n q p h) g)
+
 -- ---- a digit put at a place
 
 pub put-lt : (n k d q : ℕ) → k < n → d < 3 → q < 3 ^ n → putDigit k d q < 3 ^ n
@@ -296,7 +321,7 @@ put-other (suc k) (suc j) d q m ne =
     ap (digit j) (rest-digits (putDigit k d (q / 3)) (q % 3) (last-lt q)) ∙ put-other k j d (q / 3) m (λ e. ne (ap suc e))
 
 -- cubes with the same digits are the same
-digits-same : (n q p : ℕ) → q < 3 ^ n → p < 3 ^ n → ((k : ℕ) → k < n → digit k q ≡ digit k p) → q ≡ p
+pub digits-same : (n q p : ℕ) → q < 3 ^ n → p < 3 ^ n → ((k : ℕ) → k < n → digit k q ≡ digit k p) → q ≡ p
 unfolding digit
 digits-same zero q p l m f = let e : 3 ^ 0 ≡ 1 = refl in omega arith
 digits-same (suc n) q p l m f =
@@ -315,10 +340,19 @@ unfoldable pub bit : ℕ → ℕ → ℕ
 bit zero c = c % 2
 bit (suc k) c = bit k (c / 2)
 
-bit-at-lt : (k c : ℕ) → bit k c < 2
+pub bit-at-lt : (k c : ℕ) → bit k c < 2
 unfolding bit
 bit-at-lt zero c = bit-lt c
 bit-at-lt (suc k) c = bit-at-lt k (c / 2)
+
+-- codes with the same bits are the same
+pub bits-same : (n c d : ℕ) → c < 2 ^ n → d < 2 ^ n → ((k : ℕ) → k < n → bit k c ≡ bit k d) → c ≡ d
+unfolding bit
+bits-same zero c d l m f = let e : 2 ^ 0 ≡ 1 = refl in omega arith
+bits-same (suc n) c d l m f =
+    let e : 2 ^ suc n ≡ 2 ^ n * 2 = pow-suc 2 n in
+    let r : c / 2 ≡ d / 2 = bits-same n (c / 2) (d / 2) (omega arith) (omega arith) (λ k j. f (suc k) (omega arith)) in
+    omega (arith, f 0 (omega arith))
 
 matches-put : (n k d q c : ℕ) → d < 3 → T (fits d (bit k c)) → T (cubeMatches n q c) → T (cubeMatches n (putDigit k d q) c)
 unfolding putDigit bit cubeMatches

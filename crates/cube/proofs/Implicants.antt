@@ -9,9 +9,9 @@ use native.Mathlib.Omega.{arith}
 use lib.Dec.{T, eqb, ltb, eqb→eq, lit<, ltb→lt, lt→ltb}
 use Rattle.numbers.specs.Below.{some}
 use Rattle.cube.specs.Words.{offSet, tested, digit, cubeMatches, cubeLiterals, valueOf, within, implicant, wider, prime}
-use Rattle.numbers.proofs.Bools.{and-l, and-r, and-i, imp-e, imp-i, nand-e, nand-i, not-e, not-i, same, holds, eqb-of}
+use Rattle.numbers.proofs.Bools.{and-l, and-r, and-i, imp-e, imp-i, nand-e, nand-i, not-e, not-i, same, holds, eqb-of, lt-or-le}
 use Rattle.numbers.proofs.Below.{every-at, every-by, some-at, none-at, none-by}
-use Rattle.cube.proofs.Digits.{putDigit, contained, contained-matches, matches-contained, contained-refl, contained-trans, put-wider, put-literals, put-lt, put-narrower, is-tested, matches-halves, value-lt, value-matches, value-alone, spare}
+use Rattle.cube.proofs.Digits.{putDigit, contained, contained-matches, matches-contained, contained-refl, contained-trans, contained-same, put-wider, put-literals, put-lt, put-narrower, is-tested, matches-halves, value-lt, value-matches, value-alone, spare}
 
 -- ---- implicants
 
@@ -126,6 +126,17 @@ module _ (n : ℕ) (t : List ℕ) (q : ℕ) where
 pub prime-implicant : (n : ℕ) (t : List ℕ) (q : ℕ) → T (prime n t q) → T (implicant n t q)
 unfolding prime
 prime-implicant n t q h = and-l (implicant n t q) (not (some (3 ^ n) (wider n t q))) h
+
+-- a prime within an implicant is that implicant
+pub prime-within : (n : ℕ) (t : List ℕ) (q p : ℕ) → q < 3 ^ n → p < 3 ^ n → T (prime n t q) → T (implicant n t p) → T (contained n q p) → q ≡ p
+unfolding prime
+prime-within n t q p l m h i s = ⊎-elim (λ f. absurd (narrower f)) (λ f. contained-same n q p l m s f) (lt-or-le (cubeLiterals n p) (cubeLiterals n q))
+  where
+    narrower : cubeLiterals n p < cubeLiterals n q → ⊥
+    narrower f =
+        none-at (3 ^ n) (wider n t q) (and-r (implicant n t q) (not (some (3 ^ n) (wider n t q))) h) p m
+        (and-i (implicant n t p) (ltb (cubeLiterals n p) (cubeLiterals n q) && within n q p) i
+        (and-i (ltb (cubeLiterals n p) (cubeLiterals n q)) (within n q p) (lt→ltb (cubeLiterals n p) (cubeLiterals n q) f) (contained-within n q p s)))
 
 -- a prime that contains q
 pub record PrimeAbove (n : ℕ) (t : List ℕ) (q : ℕ) : Type 0 where

@@ -15,7 +15,7 @@ use Rattle.cube.proofs.Digits.{bit, digit-weight, bit-weight, bit-lt, l
 
 -- ---- by places counted from the last
 
-places-of : (n q c : ℕ) → T (cubeMatches n q c) → (i : ℕ) → i < n → T (fits (digit i q) (bit i c))
+pub places-of : (n q c : ℕ) → T (cubeMatches n q c) → (i : ℕ) → i < n → T (fits (digit i q) (bit i c))
 unfolding digit bit
 places-of zero q c h i l = absurd (not-suc-le-zero l)
 places-of (suc n) q c h zero l = matches-last n q c h

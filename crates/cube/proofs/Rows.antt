@@ -2,17 +2,18 @@
 -- literals, and the row of a cube is formed and spells that cube. Each law is proved bit by bit, from the last variable on. Assumes nothing.
 use mathlib.Core.Path.{_≡_, refl, sym, ap, ap₂, _∙_, subst, subst⁻¹}
 use mathlib.Core.Logic.{⊎-elim}
-use mathlib.Core.Bool.{Bool, true, false, cond, _&&_}
+use mathlib.Core.Bool.{Bool, true, false, cond, _&&_, _||_}
 use Prim.Native.Nat.{ℕ, zero, suc, _+_, _*_, _^_, _/_, _%_, _<_, _≤_, min}
-use native.Mathlib.Nat.{pow-suc}
+use native.Mathlib.Nat.{not-suc-le-zero, le-of-suc-le-suc, pow-suc}
 use native.Mathlib.Omega.{arith}
 use lib.Dec.{T, eqb, ltb, eqb→eq, ltb→lt, lt→ltb, lit<}
 use lib.Bits.{bitAnd, and-step, and-zero-r}
+use borrow.Author.Tests.{eq-eqb, ne-eqb}
 use Rattle.numbers.specs.Below.{flag}
-use Rattle.cube.specs.Words.{Row, rowMatches, formed, ones, rowLiterals, fits, tested, cubeMatches, cubeLiterals, valueOf, careOf, rowOf, digitOf, cubeOf, numberOf}
+use Rattle.cube.specs.Words.{Row, rowMatches, formed, ones, rowLiterals, fits, tested, digit, cubeMatches, cubeLiterals, valueOf, careOf, rowOf, digitOf, cubeOf, numberOf}
 use Rattle.cube.specs.Theorems.{OneToOne}
 use Rattle.numbers.proofs.Bools.{and-l, and-r, and-i, same, eqb-of}
-use Rattle.cube.proofs.Digits.{last-lt, bit-lt, is-tested, last-digit, rest-digits, last-bit, rest-bits, matches-at, literals-at, fits-e, fits-same}
+use Rattle.cube.proofs.Digits.{bit, last-lt, bit-lt, is-tested, last-digit, rest-digits, last-bit, rest-bits, matches-at, literals-at, fits-e, fits-same}
 use Rattle.numbers.proofs.Below.{flag-lt}
 use Rattle.cube.proofs.Spelling.{care-lt}
 
@@ -92,6 +93,39 @@ row-from (suc n) v w c f h =
     let last : min (c % 2) (w % 2) ≡ v % 2 = fits-bit (v % 2) (w % 2) (c % 2) (formed-last n v w f) (bit-lt w) (bit-lt c) (and-l (fits (its-digit n v w) (c % 2)) (cubeMatches n (rest-cube n v w) (c / 2)) m) in
     omega (arith, and-step c w)
 
+-- the cube of those bits of v where w has a one matches the codes that agree with v there
+bit-agrees : (v w c : ℕ) → v < 2 → w < 2 → c < 2 → fits (digitOf v w) c ≡ eqb (min c w) (min v w)
+bit-agrees v zero c a b l = sym (eq-eqb (min c 0) (min v 0) (omega arith))
+bit-agrees v (suc zero) c a b l =
+    let mine : min c 1 ≡ c = omega arith in
+    let its : min v 1 ≡ v = omega arith in
+    ap (λ (t : Bool). t || eqb v c) (ne-eqb v 2 (λ e. omega arith))
+    ∙ same (eqb v c) (eqb c v) (λ h. eqb-of c v (sym (eqb→eq v c h))) (λ h. eqb-of v c (sym (eqb→eq c v h))) ∙ sym (ap₂ eqb mine its)
+bit-agrees v (suc (suc w)) c a b l = absurd (omega arith)
+
+-- two sums of a double and a bit are equal exactly when the parts are
+parts-equal : (x y a b : ℕ) → a < 2 → b < 2 → (eqb a b && eqb x y) ≡ eqb (x * 2 + a) (y * 2 + b)
+parts-equal x y a b l m = same (eqb a b && eqb x y) (eqb (x * 2 + a) (y * 2 + b)) to from
+  where
+    to : T (eqb a b && eqb x y) → T (eqb (x * 2 + a) (y * 2 + b))
+    to h = eqb-of (x * 2 + a) (y * 2 + b) (omega (arith, eqb→eq a b (and-l (eqb a b) (eqb x y) h), eqb→eq x y (and-r (eqb a b) (eqb x y) h)))
+
+    from : T (eqb (x * 2 + a) (y * 2 + b)) → T (eqb a b && eqb x y)
+    from h =
+        let e : x * 2 + a ≡ y * 2 + b = eqb→eq (x * 2 + a) (y * 2 + b) h in
+        and-i (eqb a b) (eqb x y) (eqb-of a b (omega arith)) (eqb-of x y (omega arith))
+
+pub agrees-is-cube : (n v w c : ℕ) → w < 2 ^ n → cubeMatches n (cubeOf n v w) c ≡ eqb (bitAnd c w) (bitAnd v w)
+unfolding cubeMatches rest-cube its-digit
+agrees-is-cube zero v w c l =
+    let z : w ≡ 0 = omega arith in
+    sym (eq-eqb (bitAnd c w) (bitAnd v w) (ap (bitAnd c) z ∙ and-zero-r c ∙ sym (ap (bitAnd v) z ∙ and-zero-r v)))
+agrees-is-cube (suc n) v w c l =
+    cube-matches n v w c
+    ∙ ap₂ _&&_ (bit-agrees (v % 2) (w % 2) (c % 2) (bit-lt v) (bit-lt w) (bit-lt c)) (agrees-is-cube n (v / 2) (w / 2) (c / 2) (omega (arith, pow-suc 2 n)))
+    ∙ parts-equal (bitAnd (c / 2) (w / 2)) (bitAnd (v / 2) (w / 2)) (min (c % 2) (w % 2)) (min (v % 2) (w % 2)) (omega (arith, bit-lt c)) (omega (arith, bit-lt v))
+    ∙ sym (ap₂ eqb (and-step c w) (and-step v w))
+
 pub row-is-cube : (n : ℕ) (r : Row) → T (formed n r) → (c : ℕ) → rowMatches r c ≡ cubeMatches n (numberOf n r) c
 unfolding rowMatches
 row-is-cube n r f c =
@@ -133,6 +167,13 @@ module _ (n v w : ℕ) where
   cube-rest : cubeOf (suc n) v w / 3 ≡ cubeOf n (v / 2) (w / 2)
   unfolding cubeOf
   cube-rest = rest-digits (cubeOf n (v / 2) (w / 2)) (digitOf (v % 2) (w % 2)) (digit-of-lt (v % 2) (w % 2) (bit-lt v))
+
+-- the digits of the cube of a row
+pub cube-digit : (n v w k : ℕ) → k < n → digit k (cubeOf n v w) ≡ digitOf (bit k v) (bit k w)
+unfolding digit bit
+cube-digit zero v w k l = absurd (not-suc-le-zero l)
+cube-digit (suc n) v w zero l = cube-last n v w
+cube-digit (suc n) v w (suc k) l = ap (digit k) (cube-rest n v w) ∙ cube-digit n (v / 2) (w / 2) k (le-of-suc-le-suc l)
 
 value-back : (n v w : ℕ) → Formed n v w → valueOf n (cubeOf n v w) ≡ v
 unfolding valueOf

@@ -5,7 +5,7 @@ use lib.ListN.{length}
 use Rattle.cube.specs.Words.{essentialsOf}
 use Rattle.cube.specs.McCluskey.{SingleAsterisk}
 use Rattle.cube.proofs.McCluskey.{agreement}
-use Rattle.primes.specs.Primes.{primesRefuses}
+use Rattle.tables.specs.Listing.{primesRefuses}
 use Rattle.primes.proofs.Theorems.{reports}
 use Rattle.essentials.specs.Theorems.{ReportsEssentials}
 

@@ -5,7 +5,7 @@ use Prim.Native.Nat.{ℕ}
 use lib.ListN.{length}
 use Rattle.cube.specs.Words.{essentialsOf}
 use Rattle.cube.specs.McCluskey.{SingleAsterisk}
-use Rattle.primes.specs.Primes.{primesRefuses}
+use Rattle.tables.specs.Listing.{primesRefuses}
 use Rattle.primes.specs.Theorems.{Reports}
 
 -- "and the essential ones exactly his."

@@ -13,7 +13,7 @@ ghost use lib.ListN.{length};
 ghost use Rattle.numbers.specs.Lent.{Puts};
 ghost use Rattle.cube.specs.Words.{servingPrime, essential, essentialsOf};
 ghost use Rattle.cube.specs.Calls.{widest, Listed};
-ghost use Rattle.primes.specs.Primes.{primesRefuses};
+ghost use Rattle.tables.specs.Listing.{primesRefuses};
 ghost use Rattle.primes.specs.Steps.{Markable, Marks, isMarked};
 ghost use Rattle.chart_arrays.specs.Columns.{columnsOf};
 ghost use Rattle.essentials.specs.Steps.{PrimeWords, SoleColumns, HolderMarks};
@@ -99,7 +99,7 @@ pub fn essentials(n: usize, table: &[u8], out: &mut [u16]) -> Counted
     ensures { λ r. ⌜ Listed (primesRefuses n (now (table .entry)) (length (now (out .entry)))) (essentialsOf n (now (table .entry)))
         (now (out .entry)) (now (out .exit)) r ⌝ }
 {
-    let k = primes::listing_refusal(n, table, out.len());
+    let k = tables::listing_refusal(n, table, out.len());
     if k != 0 {
         return Counted::Refused(k);
     }

@@ -14,7 +14,7 @@ use Rattle.cube.proofs.Calls.{width-first, codes-most, cubes-most, primes-most,
 use Rattle.cube.proofs.Codes.{codes-length}
 use Rattle.cube.proofs.Lists.{rows-length}
 use Rattle.cells.specs.Cells.{cellsRefuses}
-use Rattle.primes.specs.Primes.{primesRefuses}
+use Rattle.tables.specs.Listing.{primesRefuses}
 use Rattle.chart.specs.Rows.{chartOf}
 use Rattle.listfile.specs.File.{oneByteCount, fileOf}
 use Rattle.listfile.specs.Write.{writeRefuses}

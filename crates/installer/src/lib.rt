@@ -15,7 +15,7 @@ ghost use lib.ListN.{length};
 ghost use Rattle.cube.specs.Words.{codesOf, servingPrimesOf, essentialsOf};
 ghost use Rattle.cube.specs.Calls.{countAnswer};
 ghost use Rattle.cells.specs.Cells.{cellsRefuses};
-ghost use Rattle.primes.specs.Primes.{primesRefuses};
+ghost use Rattle.tables.specs.Listing.{primesRefuses};
 ghost use Rattle.chart.specs.Rows.{chartOf};
 ghost use Rattle.spelling.specs.Spell.{spellOf};
 ghost use Rattle.plan.specs.Plan.{planAnswer};

@@ -7,8 +7,8 @@ use Prim.Native.Nat.{ℕ, suc, _+_, _-_, _<_, _≤_}
 use native.Mathlib.Nat.{zero-add, add-zero, add-suc, suc-add}
 use native.Mathlib.Numerals.{add-one}
 use native.Mathlib.Omega.{arith}
-use lib.ListN.{length, length-append, length-map, set, take, drop, drop-of-length-le, getD, List·getD-append}
-use lib.Seq.{sets, length-sets, sets-eq, take-length, getD-set-same, getD-set-other}
+use lib.ListN.{length, length-append, length-map, set, take, drop, drop-of-length-le, take-append-drop, getD, List·getD-append}
+use lib.Seq.{sets, length-sets, sets-eq, take-length, length-take-le, drop-append-add, drop-drop, getD-set-same, getD-set-other}
 use borrow.Author.Count.{below-more}
 use borrow.Rule.Slice.PartMut.{midOf, putMid, mid-len, post-is}
 use borrow.Table.Elements.{map-app}
@@ -29,6 +29,17 @@ sets-front xs old h = sets-eq xs old 0 (omega arith) ∙ ap (λ (i : ℕ). xs ++
 
 pub sets-at : (xs old : List ℕ) (i : ℕ) → length xs ≤ length old → i < length xs → getD (sets old 0 xs) i 0 ≡ getD xs i 0
 sets-at xs old i h l = ap (λ (l : List ℕ). getD l i 0) (sets-front xs old h) ∙ List·getD-append xs (drop (length xs) old) 0 i l
+
+-- what comes after a run of stores is as it was
+pub sets-behind : (xs l : List ℕ) (i j : ℕ) → i + length xs ≤ j → getD (sets l i xs) j 0 ≡ getD l j 0
+sets-behind [] l i j h = refl
+sets-behind (x ∷ xs) l i j h = sets-behind xs (set l i x) (suc i) j (omega arith) ∙ getD-set-other l i j x 0 (λ e. omega arith)
+
+-- a list that starts with what is there changes nothing by its front
+sets-same : (l : List ℕ) (i : ℕ) → i ≤ length l → sets l 0 (take i l) ≡ l
+sets-same l i h =
+    let e : length (take i l) ≡ i = length-take-le i l h in
+    sets-front (take i l) l (omega arith) ∙ ap (λ (k : ℕ). take i l ++ drop k l) e ∙ take-append-drop i l
 
 -- a copy of a whole source into the front of a list
 pub copied : (src old : List ℕ) {new : List ℕ} → new ≡ take (length src) src ++ drop (length src) old → new ≡ src ++ drop (length src) old
@@ -86,6 +97,29 @@ module _ {xs old new : List ℕ} {next : ℕ} (p : Puts xs old 0 new next) (l : 
 
   pub front-lent : take next new ≡ xs
   front-lent = front-is xs old (front-count p) (front-places p l)
+
+-- a list that stands in the first places already
+pub puts-there : {xs l : List ℕ} {count : ℕ} → count ≤ length l → take count l ≡ xs → Puts xs l 0 l count
+puts-there {xs} {l} {count} h e = puts-same e (record { behind = sym (ap (λ (k : ℕ). 0 + k) (length-take-le count l h) ∙ zero-add count); places = sym (sets-same l count h) })
+
+-- a list from a place on, with what stands before that place
+pub puts-with-front : {ys old new : List ℕ} {at next : ℕ} → at ≤ length old → Puts ys old at new next → Puts (take at old ++ ys) old 0 new next
+puts-with-front {ys} {old} {new} {at} h p = puts-append (puts-there h refl) p
+
+-- a list over one that is not longer
+pub puts-over : {xs ys old mid new : List ℕ} {count next : ℕ} → length xs ≤ length ys → length ys ≤ length old → Puts xs old 0 mid count → Puts ys mid 0 new next
+    → Puts ys old 0 new next
+puts-over {xs} {ys} {old} {mid} h l p q = record {
+  behind = q .behind;
+  places = front-places q (omega (arith, puts-long p)) ∙ ap (λ (r : List ℕ). ys ++ r) rest ∙ sym (sets-front ys old l);
+}
+  where
+    rest : drop (length ys) mid ≡ drop (length ys) old
+    rest =
+        let more : ℕ = length ys - length xs in
+        let e : length ys ≡ length xs + more = omega arith in
+        ap (drop (length ys)) (front-places p (omega arith)) ∙ ap (λ (k : ℕ). drop k (xs ++ drop (length xs) old)) e
+        ∙ drop-append-add xs (drop (length xs) old) more ∙ drop-drop more (length xs) old ∙ ap (λ (k : ℕ). drop k old) (sym e)
 
 -- the values of the first elements of a list, with one more element
 pub map-more : (f : ℕ → ℕ) (qs old : List ℕ) {new : List ℕ} (i x : ℕ) → i < length qs → Puts (map f (take i qs)) old 0 new i → x ≡ f (getD qs i 0)

@@ -1,8 +1,8 @@
--- The numbers below a bound: whether every one of them passes a test, whether one of them does, which of them do, and a function's values over them;
--- and of a list of numbers, how many pass, whether a number is in it, and that it holds some numbers once each and no others. `proofs/Below.antt`
--- has the laws. Assumes nothing.
+-- The numbers below a bound: whether every one of them passes a test, whether one of them does, which of them do, as a list and as the bits of a number,
+-- and a function's values over them; and of a list of numbers, how many pass, whether a number is in it, and that it holds some numbers once each and no
+-- others. `Below` and `Bits` of `proofs/` have the laws. Assumes nothing.
 use mathlib.Core.Path.{_≡_}
-use Prim.Native.Nat.{ℕ, zero, suc, _+_}
+use Prim.Native.Nat.{ℕ, zero, suc, _+_, _*_, _^_}
 use mathlib.Core.Bool.{Bool, true, false, cond, _&&_, _||_}
 use mathlib.Core.List.{List, [], _∷_, _++_}
 use lib.Dec.{eqb}
@@ -46,3 +46,8 @@ pub record EachOnce (xs : List ℕ) (P : ℕ → Type 0) : Type 0 where
 unfoldable pub tabulate : ℕ → ℕ → (ℕ → ℕ) → List ℕ
 tabulate zero i f = []
 tabulate (suc m) i f = f i ∷ tabulate m (suc i) f
+
+-- the number whose bit i is one for each i below m that passes
+unfoldable pub wordOf : ℕ → (ℕ → Bool) → ℕ
+wordOf zero f = 0
+wordOf (suc m) f = wordOf m f + flag (f m) * 2 ^ m

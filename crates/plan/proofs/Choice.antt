@@ -10,7 +10,7 @@ use lib.Dec.{T, eqb, leb, le→leb, ltb, ltb→lt, lt→ltb}
 use lib.ListN.{length, length-map, take, getD}
 use lib.Seq.{getD-take}
 use borrow.Table.Elements.{length-take-le}
-use Rattle.numbers.specs.Below.{those}
+use Rattle.numbers.specs.Below.{those, wordOf}
 use Rattle.cube.specs.Words.{onSet, Cover, rowMatches, coverLiterals, rowOf, servingPrimesOf}
 use Rattle.cube.specs.Calls.{widest}
 use Rattle.cube.specs.Minimum.{Minimum}
@@ -24,7 +24,6 @@ use Rattle.cube.proofs.Minimum.{minimum-rows}
 use Rattle.covering.specs.Weighted.{Within, LeastCover}
 use Rattle.matrix.specs.Sets.{has, In, member}
 use Rattle.matrix.specs.Matrix.{covers, weightOf}
-use Rattle.chart_arrays.specs.Columns.{wordOf}
 use Rattle.chart_arrays.specs.Steps.{rowColumn, IsChart}
 use Rattle.chart_arrays.specs.declared.Arrays.{Arrays}
 use Rattle.chart_arrays.proofs.Columns.{has-word}

@@ -1,5 +1,5 @@
 -- A mark tells its test, and the test by the kinds of the cubes is the test of a prime that serves: the number with a digit made 2 is the cube with 2 put
--- there. Assumes nothing.
+-- there. The marked cubes are those that pass the test. Assumes nothing.
 use mathlib.Core.Path.{_≡_, refl, sym, ap, ap₂, _∙_, subst⁻¹}
 use mathlib.Core.Bool.{Bool, true, false, not, _&&_}
 use mathlib.Core.List.{List}
@@ -8,9 +8,11 @@ use native.Mathlib.Nat.{add-mul, sub-add-cancel, le-of-suc-le-suc}
 use native.Mathlib.Omega.{arith}
 use lib.Dec.{eqb, lit<}
 use mir.Val.{boolByte}
-use Rattle.numbers.specs.Below.{flag, some}
+use Rattle.numbers.specs.Below.{flag, some, those}
+use Rattle.numbers.specs.Lent.{Puts}
 use Rattle.cube.specs.Words.{tested, digit, implicant, serves, servingPrime}
-use Rattle.numbers.proofs.Below.{some-same}
+use Rattle.numbers.proofs.Below.{some-same, those-same}
+use Rattle.numbers.proofs.Lent.{puts-same}
 use Rattle.cube.proofs.Digits.{putDigit, put-lt, put-weight, digit-lt}
 use Rattle.cube.proofs.Implicants.{expands, maximal, prime-is-maximal}
 use Rattle.primes.specs.Steps.{kind, Kinds, Marks, isMarked, freed, expandsBy, servingPrimeBy}
@@ -68,3 +70,13 @@ module _ (n : ℕ) (t kinds : List ℕ) (m : Kinds n t kinds (3 ^ n)) where
         go true false true = refl
         go true false false = refl
         go false s e = refl
+
+-- ---- the marked cubes
+
+-- the marked cubes are those that pass, where the marks are those of a test
+module _ (n : ℕ) (f : ℕ → Bool) (marks old : List ℕ) (k : Marks f marks (3 ^ n)) where
+  marked-list : those (3 ^ n) (isMarked marks) ≡ those (3 ^ n) f
+  marked-list = those-same (3 ^ n) (isMarked marks) f (λ q l. marked-is f marks (3 ^ n) q k l)
+
+  pub marked-listed : {x : ℕ} {new : List ℕ} → Puts (those (3 ^ n) (isMarked marks)) old 0 new x → Puts (those (3 ^ n) f) old 0 new x
+  marked-listed p = puts-same marked-list p

@@ -12,7 +12,7 @@ use Rattle.cube.specs.declared.Counted.{Counted}
 use Rattle.cube.specs.declared.Counted.the-variants.{Count}
 use Rattle.cube.proofs.Calls.{listed-front, listed-behind, listed-counts}
 use Rattle.cube.proofs.McCluskey.{agreement}
-use Rattle.primes.specs.Primes.{primesRefuses}
+use Rattle.tables.specs.Listing.{primesRefuses}
 use Rattle.primes.specs.Theorems.{Report, Reported, Reports, ReportsPrimes}
 
 module _ (P : ℕ → Type 0) (refusal : ℕ) (list old new : List ℕ) (each : EachOnce list P) where

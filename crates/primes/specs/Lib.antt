@@ -1,4 +1,3 @@
--- What Primes refuses, what its steps leave, and what its promise says about McCluskey's prime implicants.
-pub mod Primes
+-- What the steps of Primes leave, and what its promise says about McCluskey's prime implicants. What it refuses is what every call that lists cubes refuses.
 pub mod Steps
 pub mod Theorems

@@ -1,5 +1,6 @@
--- Demand 2's sentence about the call: what follows from the promise of Primes for the first places, as many as the count returned.
--- `proofs/Theorems.antt` proves it. Assumes nothing.
+-- Primes: "all primes, ascending by cube number, into 16-bit places; the answer is the count.", of which document 02 leaves "only primes that match a wanted
+-- code". What it lists is `servingPrimesOf`. Demand 2's sentence about the call: what follows from its promise for the first places, as many as the count
+-- returned. `proofs/Theorems.antt` proves it. Assumes nothing.
 use mathlib.Core.Path.{_≡_}
 use mathlib.Core.List.{List}
 use Prim.Native.Nat.{ℕ}
@@ -10,7 +11,7 @@ use Rattle.cube.specs.Calls.{Listed}
 use Rattle.cube.specs.McCluskey.{CrossedRow}
 use Rattle.cube.specs.declared.Counted.{Counted}
 use Rattle.cube.specs.declared.Counted.the-variants.{Count}
-use Rattle.primes.specs.Primes.{primesRefuses}
+use Rattle.tables.specs.Listing.{primesRefuses}
 
 -- the places hold a report of the cubes of which P is true, before and after a call that returned this count
 pub record Report (P : ℕ → Type 0) (old new : List ℕ) (count : ℕ) : Type 0 where

@@ -16,7 +16,7 @@ ghost use Rattle.numbers.specs.Below.{those};
 ghost use Rattle.numbers.specs.Lent.{Puts};
 ghost use Rattle.cube.specs.Words.{servingPrime, servingPrimesOf};
 ghost use Rattle.cube.specs.Calls.{widest, Listed};
-ghost use Rattle.primes.specs.Primes.{primesRefuses};
+ghost use Rattle.tables.specs.Listing.{primesRefuses};
 ghost use Rattle.primes.specs.Steps.{Markable, kind, kindOf, Kinds, Joins, MarksBelow, isMarked, expandsBy, servingPrimeBy};
 
 // The kind of a cube that is no implicant.
@@ -170,27 +170,13 @@ pub fn list_serving_primes(n: usize, table: &[u8], out: &mut [u16]) -> usize
     list_marked(n, &marks, out)
 }
 
-// What a call that lists cubes into 3^n places or more refuses: 1, 2, 3, 4, or 0 where none of these holds.
-pub fn listing_refusal(n: usize, table: &[u8], places: usize) -> u8
-    ensures { λ r. ⌜ r ≡ primesRefuses n (now (table .entry)) places ⌝ }
-{
-    let k = tables::table_refusal(n, table);
-    if k != 0 {
-        return k;
-    }
-    if places < spelling::cubes(n) {
-        return 4;
-    }
-    0
-}
-
 // Writes the primes of a table that match a wanted code into the first places, ascending by cube number. Answers how many there are, or the number
 // of the refusal.
 pub fn primes(n: usize, table: &[u8], out: &mut [u16]) -> Counted
     ensures { λ r. ⌜ Listed (primesRefuses n (now (table .entry)) (length (now (out .entry)))) (servingPrimesOf n (now (table .entry)))
         (now (out .entry)) (now (out .exit)) r ⌝ }
 {
-    let k = listing_refusal(n, table, out.len());
+    let k = tables::listing_refusal(n, table, out.len());
     if k != 0 {
         return Counted::Refused(k);
     }

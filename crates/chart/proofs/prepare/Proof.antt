@@ -5,8 +5,8 @@ use mathlib.Core.List.{List, []}
 use native.Mathlib.Omega.{arith}
 use borrow.Author.Needs.{needs}
 use Rattle.cube.proofs.Calls.{cubes-most, primes-most}
-use Rattle.primes.specs.Primes.{primesRefuses}
-use Rattle.primes.proofs.Listing.{Listable, listable}
+use Rattle.tables.specs.Listing.{primesRefuses}
+use Rattle.tables.proofs.Listing.{Listable, listable}
 use Rattle.chart.specs.declared.ChartRow.{ChartRow}
 use Rattle.chart.specs.Steps.{firstChartRows, toWrite}
 use Rattle.chart.proofs.RowLists.{chart-rows}

@@ -6,12 +6,13 @@ use Prim.Native.Nat.{ℕ, _^_, _<_}
 use native.Mathlib.Omega.{arith}
 use lib.ListN.{length}
 use borrow.Author.Needs.{needs}
+use Rattle.numbers.specs.Below.{wordOf}
+use Rattle.numbers.proofs.Bits.{word-same}
 use Rattle.cube.specs.Words.{onSet, valueOf, careOf, column}
 use Rattle.cube.proofs.Calls.{codes-most}
 use Rattle.cube.proofs.Rows.{row-of-matches}
-use Rattle.chart_arrays.specs.Columns.{wordOf, columnsOf}
+use Rattle.chart_arrays.specs.Columns.{columnsOf}
 use Rattle.chart_arrays.specs.Steps.{rowColumn}
-use Rattle.chart_arrays.proofs.Columns.{word-same}
 use Rattle.chart_arrays.proofs.cube_columns.Statement.{statement}
 use Rattle.chart_arrays.proofs.cube_columns.Tie as tie
 

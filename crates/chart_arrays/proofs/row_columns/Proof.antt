@@ -5,9 +5,9 @@ use native.Mathlib.Omega.{arith}
 use lib.ListN.{length}
 use borrow.Author.Needs.{needs}
 use Rattle.matrix.specs.Sets.{columnLimit}
-use Rattle.chart_arrays.specs.Columns.{wordOf}
+use Rattle.numbers.specs.Below.{wordOf}
+use Rattle.numbers.proofs.Bits.{word-lt, word-more}
 use Rattle.chart_arrays.specs.Steps.{rowColumn}
-use Rattle.chart_arrays.proofs.Columns.{word-lt, word-more}
 use Rattle.chart_arrays.proofs.row_columns.Statement.{statement}
 use Rattle.chart_arrays.proofs.row_columns.Tie as tie
 

@@ -4,8 +4,8 @@ use lib.ListN.{length}
 use borrow.Author.Needs.{needs}
 use Rattle.cube.specs.Words.{essentialsOf}
 use Rattle.cube.proofs.Calls.{essentials-most}
-use Rattle.primes.specs.Primes.{primesRefuses}
-use Rattle.primes.proofs.Listing.{listable, listing-refused, listing-done}
+use Rattle.tables.specs.Listing.{primesRefuses}
+use Rattle.tables.proofs.Listing.{listable, listing-refused, listing-done}
 use Rattle.essentials.proofs.essentials.Statement.{statement}
 use Rattle.essentials.proofs.essentials.Tie as tie
 

@@ -4,7 +4,7 @@ use Prim.Native.Nat.{ℕ, _^_, _≤_}
 use borrow.Author.Needs.{needs}
 use Rattle.cube.specs.Words.{essential, essentialsOf}
 use Rattle.cube.proofs.Calls.{cubes-most}
-use Rattle.primes.proofs.Listing.{marked-listed}
+use Rattle.primes.proofs.Marking.{marked-listed}
 use Rattle.essentials.proofs.list_essentials.Statement.{statement}
 use Rattle.essentials.proofs.list_essentials.Tie as tie
 

@@ -43,7 +43,7 @@ use Rattle.cube.specs.Calls.{countAnswer}
 use Rattle.cube.specs.declared.Counted.{Counted}
 use Rattle.cube.proofs.Counted as E
 use Rattle.cube.proofs.Counted.Laws as E′
-use Rattle.primes.specs.Primes.{primesRefuses}
+use Rattle.tables.specs.Listing.{primesRefuses}
 use Rattle.chart.specs.declared.ChartRow.{ChartRow}
 use Rattle.chart.specs.Rows.{chartOf, Charted}
 use Rattle.chart.proofs.ChartRow as R

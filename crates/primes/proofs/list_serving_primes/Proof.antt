@@ -4,7 +4,7 @@ use Prim.Native.Nat.{ℕ, _^_, _≤_}
 use borrow.Author.Needs.{needs}
 use Rattle.cube.specs.Words.{servingPrime, servingPrimesOf}
 use Rattle.cube.proofs.Calls.{cubes-most}
-use Rattle.primes.proofs.Listing.{marked-listed}
+use Rattle.primes.proofs.Marking.{marked-listed}
 use Rattle.primes.proofs.list_serving_primes.Statement.{statement}
 use Rattle.primes.proofs.list_serving_primes.Tie as tie
 

@@ -4,8 +4,8 @@ use lib.ListN.{length}
 use borrow.Author.Needs.{needs}
 use Rattle.cube.specs.Words.{servingPrimesOf}
 use Rattle.cube.proofs.Calls.{primes-most}
-use Rattle.primes.specs.Primes.{primesRefuses}
-use Rattle.primes.proofs.Listing.{listable, listing-refused, listing-done}
+use Rattle.tables.specs.Listing.{primesRefuses}
+use Rattle.tables.proofs.Listing.{listable, listing-refused, listing-done}
 use Rattle.primes.proofs.primes.Statement.{statement}
 use Rattle.primes.proofs.primes.Tie as tie
 

@@ -1,12 +1,12 @@
--- `primes::listing_refusal` meets its contract: what the table is refused for, then 4. Assumes nothing.
+-- `tables::listing_refusal` meets its contract: what the table is refused for, then 4. Assumes nothing.
 use mathlib.Core.Path.{_≡_, sym, _∙_, subst}
 use Prim.Native.Nat.{ℕ, _<_, _≤_}
 use borrow.Author.Needs.{needs}
 use Rattle.cube.specs.Calls.{firstOf, tableConditions}
 use Rattle.cube.proofs.Calls.{accepted}
-use Rattle.primes.proofs.Listing.{refuses-table, refuses-short, refuses-none}
-use Rattle.primes.proofs.listing_refusal.Statement.{statement}
-use Rattle.primes.proofs.listing_refusal.Tie as tie
+use Rattle.tables.proofs.Listing.{refuses-table, refuses-short, refuses-none}
+use Rattle.tables.proofs.listing_refusal.Statement.{statement}
+use Rattle.tables.proofs.listing_refusal.Tie as tie
 
 passes : (c : tie.Else1) → firstOf (tableConditions (c .before .before .before .args .n) (c .before .before .before .args .table .now)) ≡ 0
 passes c = sym (c .before .table-refusal .ensures) ∙ c .if1 .left

@@ -1,22 +1,15 @@
--- How a call on a table that lists cubes ends: it refuses with what the table is refused for, then with 4, and lists them otherwise. Primes,
--- Essentials and Chart are such calls. Assumes nothing.
+-- How a call on a table that lists cubes ends: it refuses with what the table is refused for, then with 4, and lists them otherwise. Assumes nothing.
 use mathlib.Core.Path.{_≡_, refl, sym}
-use mathlib.Core.Bool.{Bool}
 use mathlib.Core.List.{List}
 use Prim.Native.Nat.{ℕ, zero, suc, _^_, _<_, _≤_}
 use native.Mathlib.Nat.{le-trans}
 use lib.ListN.{length}
 use borrow.Author.Tests.{ltb-false, lt-ltb, le-ltb}
-use Rattle.numbers.specs.Below.{those}
 use Rattle.numbers.specs.Lent.{Puts}
 use Rattle.cube.specs.Calls.{short, firstOf, tableConditions, Listed}
 use Rattle.cube.specs.declared.Counted.the-variants.{Count, Refused}
-use Rattle.numbers.proofs.Below.{those-same}
-use Rattle.numbers.proofs.Lent.{puts-same}
 use Rattle.cube.proofs.Calls.{Accepted, accepted, last-before, last-holds, last-passes, last-none, listed-refused, listed-done}
-use Rattle.primes.specs.Primes.{primesRefuses}
-use Rattle.primes.specs.Steps.{Marks, isMarked}
-use Rattle.primes.proofs.Marking.{marked-is}
+use Rattle.tables.specs.Listing.{primesRefuses}
 
 module _ (n : ℕ) (t : List ℕ) (places : ℕ) where
   pub refuses-table : (k : ℕ) → k ≡ firstOf (tableConditions n t) → (k ≡ 0 → ⊥) → k ≡ primesRefuses n t places
@@ -46,11 +39,3 @@ module _ (n : ℕ) (t list old : List ℕ) where
   pub listing-done : {new : List ℕ} {x : ℕ} → primesRefuses n t (length old) ≡ 0 → length list ≤ 3 ^ n → Puts list old 0 new x
       → Listed (primesRefuses n t (length old)) list old new (Count x)
   listing-done none few p = listed-done none p (le-trans few (listable n t (length old) none .enough))
-
--- the marked cubes are those that pass, where the marks are those of a test
-module _ (n : ℕ) (f : ℕ → Bool) (marks old : List ℕ) (k : Marks f marks (3 ^ n)) where
-  marked-list : those (3 ^ n) (isMarked marks) ≡ those (3 ^ n) f
-  marked-list = those-same (3 ^ n) (isMarked marks) f (λ q l. marked-is f marks (3 ^ n) q k l)
-
-  pub marked-listed : {x : ℕ} {new : List ℕ} → Puts (those (3 ^ n) (isMarked marks)) old 0 new x → Puts (those (3 ^ n) f) old 0 new x
-  marked-listed p = puts-same marked-list p
