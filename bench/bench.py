@@ -172,8 +172,8 @@ def main(words):
         wrong += report("random", charts.random_charts(1956, 500), None, solvers, False)
     for name, files in ("hard6", [TABLES]), ("all of tests/tables", [TABLES, ADVERSARIAL, DENSE]):
         stack = run([OUT + "/stack"] + files).split()
-        print("\nstack for %s: %s bytes in rows_plan, %s in rows_keep_out, %s in rows_better, %s in rows_chart, %s in the other calls for C" % (
-            name, *stack))
+        print("\nstack for %s: %s bytes in rows_plan, %s in rows_keep_out, %s in rows_better, %s in rows_chart, %s in rows_essentials, "
+              "%s in rows_essentials_by_neighbours, %s in the other calls for C, %s without a call" % (name, *stack))
     sys.exit("%d answers are wrong" % wrong if wrong else 0)
 
 

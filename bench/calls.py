@@ -2,7 +2,7 @@
 """Times of the calls for C.
 
     bench/calls.py check            rows_check on lists of up to 255 rows
-    bench/calls.py tables           rows_primes, rows_chart, rows_essentials and rows_plan on the tables of tests/tables
+    bench/calls.py tables           rows_primes, rows_chart, both calls that list the essential primes, and rows_plan on the tables of tests/tables
     bench/calls.py lists            rows_plan, rows_keep_out and rows_better on the same tables, and on them with wanted and barred exchanged
     bench/calls.py NAME OTHER.a     beside another libinstaller.a, as an older one, and how many times as long that one takes
 

@@ -13,6 +13,8 @@ static int32_t charts(const struct table *t) { return rows_chart(t->width, t->ce
 
 static int32_t essentials(const struct table *t) { return rows_essentials(t->width, t->cells, t->len, cubes, MOST_CUBES); }
 
+static int32_t by_neighbours(const struct table *t) { return rows_essentials_by_neighbours(t->width, t->cells, t->len, cubes, MOST_CUBES); }
+
 static int32_t plan(const struct table *t) { return rows_plan(t->width, t->cells, t->len, values, MOST_ROWS, cares, MOST_ROWS); }
 
 static void measure(const char *name, int32_t (*call)(const struct table *), const char *file, size_t count, int rounds) {
@@ -35,6 +37,7 @@ int main(int argc, char **argv) {
         measure("rows_primes", primes, argv[i], count, rounds);
         measure("rows_chart", charts, argv[i], count, rounds);
         measure("rows_essentials", essentials, argv[i], count, rounds);
+        measure("rows_essentials_by_neighbours", by_neighbours, argv[i], count, rounds);
         measure("rows_plan", plan, argv[i], count, rounds);
     }
     return 0;

@@ -111,6 +111,13 @@ int32_t rows_chart(size_t n, const uint8_t *table, size_t table_len, struct rows
  */
 int32_t rows_essentials(size_t n, const uint8_t *table, size_t table_len, uint16_t *cubes, size_t cubes_len);
 
+/* What rows_essentials does, with the same answers, refusals and places for every table, without a chart: for
+ * tools with little memory. It looks at the neighbours of each wanted code, the codes that differ from it in
+ * one bit.
+ */
+int32_t rows_essentials_by_neighbours(size_t n, const uint8_t *table, size_t table_len, uint16_t *cubes,
+                                      size_t cubes_len);
+
 /* A shortest list for the table, ascending by cube number, into the first places of values and cares.
  * It matches every wanted code and no barred one. No list that does so has fewer rows, and none with as
  * many rows tests fewer bits. Which of several equally good lists is written is left open.

@@ -98,15 +98,18 @@ int32_t try_cells(size_t n, size_t cube, size_t codes_len) {
     return answer;
 }
 
-/* Primes or Essentials. */
-static int32_t try_listing(int essentials, size_t n, const uint8_t *cells, size_t table_len, size_t cubes_len) {
+/* The calls that list cubes. */
+typedef int32_t listing(size_t n, const uint8_t *table, size_t table_len, uint16_t *cubes, size_t cubes_len);
+
+/* Primes, or one of the calls that list the essential primes. */
+static int32_t try_listing(listing *call, const char *name, int essentials, size_t n, const uint8_t *cells, size_t table_len, size_t cubes_len) {
     struct term primes[MOST_CUBES];
     uint8_t *table = lend(0, cells, table_len);
     uint16_t *cubes = lend_random(1, cubes_len * sizeof *cubes);
     int k = refuses_table(n, cells, table_len);
     k = k ? k : cubes_len < power(3, n) ? 4 : 0;
-    calling = essentials ? "rows_essentials" : "rows_primes";
-    int32_t answer = (essentials ? rows_essentials : rows_primes)(n, table, table_len, cubes, cubes_len), count = 0;
+    calling = name;
+    int32_t answer = call(n, table, table_len, cubes, cubes_len), count = 0;
     size_t listed = k ? 0 : (essentials ? find_primes : find_serving)(n, cells, primes);
     int right = kept(0, 0);
     for (size_t i = 0; i < listed; i++) {
@@ -121,9 +124,28 @@ static int32_t try_listing(int essentials, size_t n, const uint8_t *cells, size_
     return answer;
 }
 
-int32_t try_primes(size_t n, const uint8_t *table, size_t table_len, size_t cubes_len) { return try_listing(0, n, table, table_len, cubes_len); }
+int32_t try_primes(size_t n, const uint8_t *table, size_t table_len, size_t cubes_len) {
+    return try_listing(rows_primes, "rows_primes", 0, n, table, table_len, cubes_len);
+}
 
-int32_t try_essentials(size_t n, const uint8_t *table, size_t table_len, size_t cubes_len) { return try_listing(1, n, table, table_len, cubes_len); }
+int32_t try_essentials(size_t n, const uint8_t *table, size_t table_len, size_t cubes_len) {
+    try_listing(rows_essentials_by_neighbours, "rows_essentials_by_neighbours", 1, n, table, table_len, cubes_len);
+    try_same_essentials(n, table, table_len, cubes_len);
+    return try_listing(rows_essentials, "rows_essentials", 1, n, table, table_len, cubes_len);
+}
+
+void try_same_essentials(size_t n, const uint8_t *cells, size_t table_len, size_t cubes_len) {
+    size_t bytes = cubes_len * sizeof(uint16_t);
+    uint8_t *table = lend(0, cells, table_len);
+    uint16_t *cubes = lend_random(1, bytes), *others = lend(2, cubes, bytes);
+    calling = "rows_essentials";
+    int32_t answer = rows_essentials(n, table, table_len, cubes, cubes_len);
+    calling = "rows_essentials_by_neighbours";
+    int32_t other = rows_essentials_by_neighbours(n, table, table_len, others, cubes_len);
+    int same = memcmp(cubes, others, bytes) == 0;
+    expect(answer == other && same, "rows_essentials(%zu, %s, %zu places): %d, by neighbours %d; the places are %s", n, text(cells, table_len), cubes_len, answer,
+           other, same ? "the same" : "not the same");
+}
 
 int32_t try_chart(size_t n, const uint8_t *cells, size_t table_len, size_t rows_len) {
     struct term primes[MOST_CUBES];

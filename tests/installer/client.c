@@ -32,6 +32,7 @@ int main(void) {
     places_for_codes();
     every_small_table();
     random_tables();
+    many_essentials();
     places_for_tables();
     refusals_of_tables();
     every_row();

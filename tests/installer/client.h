@@ -25,16 +25,19 @@ void *lend_random(size_t which, size_t bytes);
 /* Whether everything but the first `used` bytes of that array is as it was lent. */
 int kept(size_t which, size_t used);
 
-/* calls.c: one call each, whose answer and lent memory are compared with what document 01 says, and document 02 of Read, of Plan's places and of keep-out
- * lists. They return what the call returned. */
+/* calls.c: one call each, whose answer and lent memory are compared with what document 01 says, and document 02 of Read, of Plan's places, of keep-out lists and
+ * of essential primes. They return what the call returned. */
 int32_t try_spell(size_t n, size_t cube);
 int32_t try_cells(size_t n, size_t cube, size_t codes_len);
 int32_t try_primes(size_t n, const uint8_t *table, size_t table_len, size_t cubes_len);
 int32_t try_chart(size_t n, const uint8_t *table, size_t table_len, size_t rows_len);
-int32_t try_essentials(size_t n, const uint8_t *table, size_t table_len, size_t cubes_len);
+int32_t try_essentials(size_t n, const uint8_t *table, size_t table_len, size_t cubes_len); /* both calls that list them */
 int32_t try_check(size_t n, const uint8_t *table, size_t table_len, const uint8_t *values, size_t values_len, const uint8_t *cares, size_t cares_len);
 int32_t try_write(size_t n, const uint8_t *values, size_t values_len, const uint8_t *cares, size_t cares_len, size_t file_len);
 int32_t try_read(const uint8_t *file, size_t file_len, size_t values_len, size_t cares_len);
+
+/* Both calls that list the essential primes, lent places that hold the same: they answer the same and leave the same, also behind the count. */
+void try_same_essentials(size_t n, const uint8_t *table, size_t table_len, size_t cubes_len);
 
 /* The calls that write a list for a table. They are lent the same, and refuse the same. */
 enum { PLAN, KEEP_OUT, BETTER, BUILDERS };
@@ -65,6 +68,7 @@ void every_cube(void);
 void places_for_codes(void);
 void every_small_table(void);
 void random_tables(void);
+void many_essentials(void);
 void places_for_tables(void);
 void refusals_of_tables(void);
 void every_row(void);

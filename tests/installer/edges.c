@@ -284,6 +284,7 @@ void long_arrays(void) {
     answers("2^32 + 64 cells", rows_primes(6, large, more + 64, cubes, 729), -2);
     answers("2^32 + 64 cells", rows_chart(6, large, more + 64, chart, 729), -2);
     answers("2^32 + 64 cells", rows_essentials(6, large, more + 64, cubes, 729), -2);
+    answers("2^32 + 64 cells", rows_essentials_by_neighbours(6, large, more + 64, cubes, 729), -2);
     answers("2^32 + 64 cells", rows_check(6, large, more + 64, zeros, 1, rows, 1), -2);
     answers("2^32 + 1 values, one care", rows_check(6, barred, 64, large, more + 1, zeros, 1), -5);
     answers("2^32 + 1 values, one care", rows_write(6, large, more + 1, zeros, 1, file, 300), -5);
@@ -294,6 +295,7 @@ void long_arrays(void) {
     answers("2^32 + 1 places for codes", rows_cells(6, 728, large, more + 1), 64);
     answers("2^32 + 1 places for primes", rows_primes(6, wanted, 64, (uint16_t *)large, more + 1), 1);
     answers("2^32 + 1 places for essentials", rows_essentials(6, wanted, 64, (uint16_t *)large, more + 1), 1);
+    answers("2^32 + 1 places for essentials", rows_essentials_by_neighbours(6, wanted, 64, (uint16_t *)large, more + 1), 1);
     answers("2^32 + 1 bytes for a file", rows_write(6, zeros, 1, rows, 1, large, more + 1), 4);
     answers("2^32 + 1 places for what is read", rows_read(two_rows, 6, large, more + 1, other, 2), 600002);
     answers("2^32 + 1 places for what is read", rows_read(two_rows, 6, other, 2, large, more + 1), 600002);

@@ -41,6 +41,19 @@ void random_tables(void) {
     }
 }
 
+/* Both calls that list the essential primes on 18,000 random tables of each width from 4 on: 400 of each share of wanted and free codes in eighths. */
+void many_essentials(void) {
+    uint8_t table[MOST_CODES];
+    for (size_t n = 4; n <= WIDEST; n++) {
+        for (size_t wanted = 0; wanted <= 8; wanted++) {
+            for (size_t t = 0; t < 400 * (9 - wanted); t++) {
+                random_table(n, table, wanted, t / 400);
+                try_same_essentials(n, table, codes(n), cubes(n) + random_below(3));
+            }
+        }
+    }
+}
+
 /* Every number of places for the cubes, and for each of a list's arrays. */
 void places_for_tables(void) {
     uint8_t table[MOST_CODES];

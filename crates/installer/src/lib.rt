@@ -141,6 +141,15 @@ pub extern "C" fn rows_essentials(n: usize, table: &[u8], cubes: &mut [u16]) -> 
     count_number(essentials::essentials(n, table, cubes))
 }
 
+// Essentials from the neighbours for C: what rows_essentials answers and writes, for a tool that is too small for charts.
+#[no_mangle]
+pub extern "C" fn rows_essentials_by_neighbours(n: usize, table: &[u8], cubes: &mut [u16]) -> i32
+    ensures { λ r. ⌜ ListedForC (primesRefuses n (now (table .entry)) (length (now (cubes .entry)))) (essentialsOf n (now (table .entry)))
+        (now (cubes .entry)) (now (cubes .exit)) r ⌝ }
+{
+    count_number(neighbours::essentials_by_neighbours(n, table, cubes))
+}
+
 // Plan for C: 10,000 × rows + tested bits of the list that is written, or minus the number of the refusal.
 #[no_mangle]
 pub extern "C" fn rows_plan(n: usize, table: &[u8], values: &mut [u8], cares: &mut [u8]) -> i32

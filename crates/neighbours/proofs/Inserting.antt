@@ -1,6 +1,6 @@
 -- A number put into an ascending list: where it belongs, how the numbers behind it are moved one place on, and that the numbers below a bound that pass, with
 -- one more, are their list with that number put in. Assumes nothing.
-use mathlib.Core.Path.{_≡_, refl, sym, ap, ap₂, _∙_, subst}
+use mathlib.Core.Path.{_≡_, refl, sym, ap, ap₂, _∙_, subst, subst⁻¹}
 use mathlib.Core.Logic.{_⊎_, inl, inr, ⊎-elim}
 use mathlib.Core.Bool.{Bool, true, false, cond, _||_}
 use mathlib.Core.List.{List, [], _∷_, _++_, append-nil}
@@ -133,13 +133,14 @@ module _ (q at : ℕ) (list : List ℕ) (count : ℕ) (a : at ≤ count) (b : co
           next = was l ∙ ap (λ (k : ℕ). getD behind k 0) e;
         }
 
-    pub moved-all : count ≤ i → Puts (insertedAt at q (take count list)) list 0 (set new count carried) (count + 1)
-    moved-all l =
+    pub moved-all : {r : ℕ} → count ≤ i → r ≡ count + 1 → Puts (insertedAt at q (take count list)) list 0 (set new count carried) r
+    moved-all {r} l k =
         let e : i ≡ count = omega (arith, m .to) in
         let all : length behind ≤ i - at + 1 = omega (arith, behind-length) in
         let whole = puts-same (take-all (i - at + 1) behind all) placed in
         puts-same (ap (λ (r : List ℕ). r ++ behind) (sym (take-take at count list a)))
-        (puts-with-front (omega arith) (subst (λ (k : ℕ). Puts behind list at (set new k carried) (k + 1)) e whole))
+        (puts-with-front (omega arith)
+        (subst⁻¹ (λ (j : ℕ). Puts behind list at (set new count carried) j) k (subst (λ (j : ℕ). Puts behind list at (set new j carried) (j + 1)) e whole)))
 
 -- ---- one number more that passes
 

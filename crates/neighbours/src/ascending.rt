@@ -19,11 +19,11 @@ pub fn place_of(q: u16, list: &[u16], count: usize) -> Place
     let mut at = 0;
     while at < count {
         let listed = list[at];
-        if listed == q {
-            return Place::There;
-        }
         if q < listed {
             return Place::Before(at);
+        }
+        if q == listed {
+            return Place::There;
         }
         at += 1;
     }

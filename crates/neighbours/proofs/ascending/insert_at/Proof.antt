@@ -63,7 +63,7 @@ returns : tie.Need-returns Inv-loop μ-loop
 returns c =
     let i = c .before .loop .inv in
     let s = c .before .before .args in
-    moved-all (s .q) (s .at) (s .list .now) (s .count) (i .0) (i .1) (i .2) (omega (arith, c .loop-test .left))
+    moved-all (s .q) (s .at) (s .list .now) (s .count) (i .0) (i .1) (i .2) (omega (arith, c .loop-test .left)) (omega arith)
 
 pub insert-at-spec : {M : Type 1} → statement M
 insert-at-spec =

@@ -27,13 +27,13 @@ returns : tie.Need-returns Inv-loop μ-loop
 returns c =
     let s = c .before .before .before .before .args in
     let i = c .before .before .before .loop .inv in
-    place-there (s .q) (s .list .now) (s .count) (i .0) (c .before .before .before .loop .at) (i .2) (omega arith) (omega (arith, c .if1 .taken))
+    place-before (s .q) (s .list .now) (s .count) (i .0) _ (λ j l. i .2 j (omega (arith, l))) (omega arith) (λ h. omega (arith, c .if1 .taken))
 
 returns-2 : tie.Need-returns-2 Inv-loop μ-loop
 returns-2 c =
     let s = c .before .before .before .before .before .args in
     let i = c .before .before .before .before .loop .inv in
-    place-before (s .q) (s .list .now) (s .count) (i .0) (c .before .before .before .before .loop .at) (i .2) (omega arith) (λ h. omega (arith, c .if2 .taken))
+    place-there (s .q) (s .list .now) (s .count) (i .0) (c .before .before .before .before .loop .at) (i .2) (omega arith) (omega (arith, c .if2 .taken))
 
 add-at : tie.Need-add-at Inv-loop μ-loop
 add-at c = omega arith
