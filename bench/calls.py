@@ -41,6 +41,9 @@ def main(name, *archives):
     for what, took in times[0].items():
         others = "".join(", the other %.2f us, %.2f times as long" % (other[what] / 1e3, other[what] / took) for other in times[1:])
         print("%s: %.2f us%s" % (what, took / 1e3, others))
+        beside = times[0].get(what.replace("rows_essentials_by_neighbours", "rows_essentials"), took)
+        if beside != took:
+            print("    rows_essentials takes %.1f times as long" % (beside / took))
 
 
 if len(sys.argv) not in (2, 3) or sys.argv[1] not in WORDS:

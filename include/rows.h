@@ -30,9 +30,10 @@
  * address will do. A call touches no other memory of the caller, keeps nothing and allocates nothing,
  * so threads may call at the same time, each with its own arrays.
  *
- * A call needs stack: allow rows_plan, rows_keep_out and rows_better 1 MB. The most that was measured,
- * on x86-64, is 287 KB for rows_plan, 277 KB for the other two, which need some 300 bytes more than it in
- * one program, 39 KB for rows_chart and 13 KB for the other calls; no bound is proved.
+ * A call needs stack: allow rows_plan, rows_keep_out and rows_better 1 MB. The most that was measured on
+ * x86-64, from the caller's frame down, is 273 KB for these three (287 KB with what a thread needs to start
+ * and to end), 33 KB for rows_chart, 9 KB for rows_essentials, 264 bytes for rows_essentials_by_neighbours
+ * and 3 KB for the other calls; no bound is proved.
  *
  * Answers
  *
@@ -111,9 +112,9 @@ int32_t rows_chart(size_t n, const uint8_t *table, size_t table_len, struct rows
  */
 int32_t rows_essentials(size_t n, const uint8_t *table, size_t table_len, uint16_t *cubes, size_t cubes_len);
 
-/* What rows_essentials does, with the same answers, refusals and places for every table, without a chart: for
- * tools with little memory. It looks at the neighbours of each wanted code, the codes that differ from it in
- * one bit.
+/* What rows_essentials does, for tools with little memory: the answers, the refusals and the places afterwards
+ * are the same for every table, and there is no chart. It looks at the neighbours of each wanted code, which
+ * differ from it in one bit.
  */
 int32_t rows_essentials_by_neighbours(size_t n, const uint8_t *table, size_t table_len, uint16_t *cubes,
                                       size_t cubes_len);

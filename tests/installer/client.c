@@ -26,6 +26,7 @@ int main(void) {
     edges();
     filled_places();
     free_codes();
+    essentials_of_002();
     cases();
     long_arrays();
     every_cube();

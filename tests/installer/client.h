@@ -62,8 +62,8 @@ struct row damaged_row(size_t n);
 #define LENGTH(array) (sizeof(array) / sizeof((array)[0]))
 
 /* What is tried. cubes.c: Spell and Cells. tables.c: Primes, Chart, Essentials and the calls that write a list. lists.c: Check and Write. files.c: Read.
- * edges.c: the sentences of "Codes at the edge" and the cases a to j, by their numbers in document 01, the tables that fill all places, and very long
- * arrays. */
+ * edges.c: the sentences of "Codes at the edge" and the cases a to j, by their numbers in document 01, the tables that fill all places, Table 1 of document
+ * 002, and very long arrays. */
 void every_cube(void);
 void places_for_codes(void);
 void every_small_table(void);
@@ -87,6 +87,7 @@ void round_trips(void);
 void edges(void);
 void filled_places(void);
 void free_codes(void);
+void essentials_of_002(void);
 void cases(void);
 void long_arrays(void);
 

@@ -253,6 +253,27 @@ void free_codes(void) {
     }
 }
 
+/* Table 1 of document 002: the nine essential primes that it prints, by both calls that list them. */
+void essentials_of_002(void) {
+    static const char cells[] = "0002010200120112002200221022002201121002100211121122112201221022";
+    static const char *const printed[] = {"00-1-1", "0110-0", "0-1-1-", "101-00", "110---", "11-0-1", "1-001-", "1-00-1", "1--100"};
+    uint8_t table[64];
+    uint16_t cubes[2][729];
+    for (size_t c = 0; c < 64; c++) {
+        table[c] = (uint8_t)(cells[c] - '0');
+    }
+    answers("Table 1 of 002", try_essentials(6, table, 64, 729), LENGTH(printed));
+    rows_essentials(6, table, 64, cubes[0], 729);
+    rows_essentials_by_neighbours(6, table, 64, cubes[1], 729);
+    for (size_t i = 0; i < LENGTH(printed); i++) {
+        size_t cube = 0;
+        for (const char *digit = printed[i]; *digit != 0; digit++) {
+            cube = 3 * cube + (*digit == '-' ? 2 : (size_t)(*digit - '0'));
+        }
+        expect(cubes[0][i] == cube && cubes[1][i] == cube, "Table 1 of 002, %s", printed[i]);
+    }
+}
+
 void cases(void) {
     uint8_t cells[16];
     for (size_t i = 0; i < sizeof examples / sizeof examples[0]; i++) {

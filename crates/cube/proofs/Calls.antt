@@ -11,7 +11,7 @@ use lib.ListN.{length, take, drop}
 use lib.Pow.{pow-mono}
 use borrow.Author.Tests.{ltb-false, lt-ltb, le-ltb, eq-eqb, eqb-true, not-false}
 use Rattle.cube.specs.Words.{rowsOf, essential, essentialsOf, servingPrime, servingPrimesOf}
-use Rattle.cube.specs.Calls.{widest, badWidth, badLength, badCell, short, unequalLengths, mostRows, tooManyRows, badRow, Condition, when, firstOf, tableConditions, listConditions, Answer, refuses, gives, answered, written, Listed}
+use Rattle.cube.specs.Calls.{widest, badWidth, badLength, badCell, short, unequalLengths, mostRows, tooManyRows, badRow, Condition, when, firstOf, tableConditions, listConditions, Answer, refuses, gives, answered, written, countAnswer, Listed}
 use Rattle.cube.specs.declared.Counted.{Counted}
 use Rattle.cube.specs.declared.Counted.the-variants.{Count, Refused}
 use Rattle.numbers.specs.Lent.{Puts}
@@ -211,6 +211,17 @@ answered-refuses j zero b e = absurd (refuses-gives j b e)
 answered-refuses j (suc k) b e = (sym (same-number j (suc k) e), λ z. omega arith)
 
 -- ---- a call that writes a list
+
+-- two calls that keep one promise leave and answer the same
+same-answer : (r s : Counted) → countAnswer r ≡ countAnswer s → r ≡ s
+same-answer (Count j) (Count k) e = ap Count (same-value j k e)
+same-answer (Refused j) (Refused k) e = ap Refused (same-number j k e)
+same-answer (Count j) (Refused k) e = absurd (refuses-gives k j (sym e))
+same-answer (Refused j) (Count k) e = absurd (refuses-gives j k e)
+
+pub listed-alike : {A : Type 0} {refusal : ℕ} {list old new other : List A} (r s : Counted) → Listed refusal list old new r → Listed refusal list old other s
+    → (new ≡ other) × (r ≡ s)
+listed-alike r s p q = (p .places ∙ sym (q .places), same-answer r s (p .answer ∙ sym (q .answer)))
 
 -- where it answers a refusal's number, that is what it refuses with
 pub listed-number : {A : Type 0} {refusal : ℕ} {list old new : List A} (k : ℕ) → Listed refusal list old new (Refused k) → refusal ≡ k

@@ -1,7 +1,7 @@
 -- Formed rows and cubes correspond one to one, the theorem `OneToOne` of `specs/Theorems.antt`: the cube of a row matches the same codes with as many
--- literals, and the row of a cube is formed and spells that cube. Each law is proved bit by bit, from the last variable on. Assumes nothing.
-use mathlib.Core.Path.{_≡_, refl, sym, ap, ap₂, _∙_, subst, subst⁻¹}
-use mathlib.Core.Logic.{⊎-elim}
+-- literals, and the row of a cube is formed and spells that cube. The cube of some bits of a code matches the codes that agree with it there, whether or
+-- not the code has ones elsewhere. Each law is proved bit by bit, from the last variable on. Assumes nothing.
+use mathlib.Core.Path.{_≡_, refl, sym, ap, ap₂, _∙_}
 use mathlib.Core.Bool.{Bool, true, false, cond, _&&_, _||_}
 use Prim.Native.Nat.{ℕ, zero, suc, _+_, _*_, _^_, _/_, _%_, _<_, _≤_, min}
 use native.Mathlib.Nat.{not-suc-le-zero, le-of-suc-le-suc, pow-suc}
@@ -13,7 +13,7 @@ use Rattle.numbers.specs.Below.{flag}
 use Rattle.cube.specs.Words.{Row, rowMatches, formed, ones, rowLiterals, fits, tested, digit, cubeMatches, cubeLiterals, valueOf, careOf, rowOf, digitOf, cubeOf, numberOf}
 use Rattle.cube.specs.Theorems.{OneToOne}
 use Rattle.numbers.proofs.Bools.{and-l, and-r, and-i, same, eqb-of}
-use Rattle.cube.proofs.Digits.{bit, last-lt, bit-lt, is-tested, last-digit, rest-digits, last-bit, rest-bits, matches-at, literals-at, fits-e, fits-same}
+use Rattle.cube.proofs.Digits.{bit, last-lt, bit-lt, is-tested, last-digit, rest-digits, last-bit, rest-bits, matches-at, literals-at}
 use Rattle.numbers.proofs.Below.{flag-lt}
 use Rattle.cube.proofs.Spelling.{care-lt}
 
@@ -50,17 +50,6 @@ module _ (n v w : ℕ) (f : Formed (suc n) v w) where
 
 -- ---- from a row to its cube
 
--- one bit: c AND care is value exactly when the digit fits
-bit-fits : (v w c : ℕ) → v ≤ w → w < 2 → c < 2 → min c w ≡ v → T (fits (digitOf v w) c)
-bit-fits v zero c a b l e = tt
-bit-fits v (suc zero) c a b l e = let d : c ≡ v = omega arith in fits-same v c (sym d)
-bit-fits v (suc (suc w)) c a b l e = absurd (omega arith)
-
-fits-bit : (v w c : ℕ) → v ≤ w → w < 2 → c < 2 → T (fits (digitOf v w) c) → min c w ≡ v
-fits-bit v zero c a b l t = omega arith
-fits-bit v (suc zero) c a b l t = ⊎-elim (λ e. absurd (omega arith)) (λ e. omega arith) (fits-e v c t)
-fits-bit v (suc (suc w)) c a b l t = absurd (omega arith)
-
 -- the cube of a row with one more variable
 module _ (n v w : ℕ) where
   rest-cube : ℕ
@@ -72,26 +61,6 @@ module _ (n v w : ℕ) where
   cube-matches : (c : ℕ) → cubeMatches (suc n) (cubeOf (suc n) v w) c ≡ (fits its-digit (c % 2) && cubeMatches n rest-cube (c / 2))
   unfolding cubeOf rest-cube its-digit
   cube-matches c = matches-at n (cubeOf n (v / 2) (w / 2)) (digitOf (v % 2) (w % 2)) (digit-of-lt (v % 2) (w % 2) (bit-lt v)) c
-
-row-to : (n v w c : ℕ) → Formed n v w → bitAnd c w ≡ v → T (cubeMatches n (cubeOf n v w) c)
-unfolding cubeMatches rest-cube its-digit
-row-to zero v w c f e = tt
-row-to (suc n) v w c f e =
-    subst⁻¹ T (cube-matches n v w c)
-    (and-i (fits (its-digit n v w) (c % 2)) (cubeMatches n (rest-cube n v w) (c / 2))
-    (bit-fits (v % 2) (w % 2) (c % 2) (formed-last n v w f) (bit-lt w) (bit-lt c) (omega (arith, and-step c w)))
-    (row-to n (v / 2) (w / 2) (c / 2) (formed-rest n v w f) (omega (arith, and-step c w))))
-
-row-from : (n v w c : ℕ) → Formed n v w → T (cubeMatches n (cubeOf n v w) c) → bitAnd c w ≡ v
-unfolding rest-cube its-digit
-row-from zero v w c f h =
-    let z : w ≡ 0 = omega (arith, f .care) in
-    ap (bitAnd c) z ∙ and-zero-r c ∙ sym (ap (bitAnd v) z ∙ and-zero-r v) ∙ f .inside
-row-from (suc n) v w c f h =
-    let m : T (fits (its-digit n v w) (c % 2) && cubeMatches n (rest-cube n v w) (c / 2)) = subst T (cube-matches n v w c) h in
-    let rest : bitAnd (c / 2) (w / 2) ≡ v / 2 = row-from n (v / 2) (w / 2) (c / 2) (formed-rest n v w f) (and-r (fits (its-digit n v w) (c % 2)) (cubeMatches n (rest-cube n v w) (c / 2)) m) in
-    let last : min (c % 2) (w % 2) ≡ v % 2 = fits-bit (v % 2) (w % 2) (c % 2) (formed-last n v w f) (bit-lt w) (bit-lt c) (and-l (fits (its-digit n v w) (c % 2)) (cubeMatches n (rest-cube n v w) (c / 2)) m) in
-    omega (arith, and-step c w)
 
 -- the cube of those bits of v where w has a one matches the codes that agree with v there
 bit-agrees : (v w c : ℕ) → v < 2 → w < 2 → c < 2 → fits (digitOf v w) c ≡ eqb (min c w) (min v w)
@@ -129,9 +98,8 @@ agrees-is-cube (suc n) v w c l =
 pub row-is-cube : (n : ℕ) (r : Row) → T (formed n r) → (c : ℕ) → rowMatches r c ≡ cubeMatches n (numberOf n r) c
 unfolding rowMatches
 row-is-cube n r f c =
-    same (eqb (bitAnd c (r .care)) (r .value)) (cubeMatches n (numberOf n r) c)
-    (λ h. row-to n (r .value) (r .care) c (formed-means n r f) (eqb→eq _ _ h))
-    (λ h. eqb-of _ _ (row-from n (r .value) (r .care) c (formed-means n r f) h))
+    let m = formed-means n r f in
+    ap (eqb (bitAnd c (r .care))) (sym (m .inside)) ∙ sym (agrees-is-cube n (r .value) (r .care) c (m .care))
 
 -- the digit of a bit is tested exactly where care has a one
 digit-care : (v w : ℕ) → v < 2 → w < 2 → flag (tested (digitOf v w)) ≡ w

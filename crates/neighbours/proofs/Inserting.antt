@@ -1,14 +1,14 @@
 -- A number put into an ascending list: where it belongs, how the numbers behind it are moved one place on, and that the numbers below a bound that pass, with
 -- one more, are their list with that number put in. Assumes nothing.
 use mathlib.Core.Path.{_≡_, refl, sym, ap, ap₂, _∙_, subst, subst⁻¹}
-use mathlib.Core.Logic.{_⊎_, inl, inr, ⊎-elim}
+use mathlib.Core.Logic.{⊎-elim}
 use mathlib.Core.Bool.{Bool, true, false, cond, _||_}
 use mathlib.Core.List.{List, [], _∷_, _++_, append-nil}
 use Prim.Native.Nat.{ℕ, zero, suc, _+_, _-_, _<_, _≤_}
 use native.Mathlib.Nat.{not-suc-le-zero, le-of-suc-le-suc, eq-or-lt-of-le}
 use native.Mathlib.Numerals.{add-one}
 use native.Mathlib.Omega.{arith}
-use lib.Dec.{T, eqb, ltb, eqb-refl}
+use lib.Dec.{eqb, ltb, eqb-refl}
 use lib.ListN.{length, length-append, length-drop, set, take, drop, getD}
 use lib.Seq.{length-take-le, take-all, take-take, getD-take, getD-drop}
 use borrow.Author.Tests.{lt-ltb, le-ltb, eq-eqb, ne-eqb}
@@ -42,13 +42,13 @@ module _ (q x : ℕ) (xs : List ℕ) where
 
 -- the numbers before a place are below q, and the one that is there is q itself, or above it, or there is none
 module _ (q : ℕ) where
-  pub inserted-there : (xs : List ℕ) (at : ℕ) → at < length xs → ((j : ℕ) → j < at → getD xs j 0 < q) → getD xs at 0 ≡ q → inserted q xs ≡ xs
+  inserted-there : (xs : List ℕ) (at : ℕ) → at < length xs → ((j : ℕ) → j < at → getD xs j 0 < q) → getD xs at 0 ≡ q → inserted q xs ≡ xs
   inserted-there [] at l f e = absurd (not-suc-le-zero l)
   inserted-there (x ∷ xs) zero l f e = inserted-equal q x xs e
   inserted-there (x ∷ xs) (suc at) l f e =
       inserted-above q x xs (f 0 (omega arith)) ∙ ap (λ (r : List ℕ). x ∷ r) (inserted-there xs at (le-of-suc-le-suc l) (λ j h. f (suc j) (omega arith)) e)
 
-  pub inserted-before : (xs : List ℕ) (at : ℕ) → at ≤ length xs → ((j : ℕ) → j < at → getD xs j 0 < q) → (at < length xs → q < getD xs at 0)
+  inserted-before : (xs : List ℕ) (at : ℕ) → at ≤ length xs → ((j : ℕ) → j < at → getD xs j 0 < q) → (at < length xs → q < getD xs at 0)
       → inserted q xs ≡ insertedAt at q xs
   unfolding inserted
   inserted-before [] zero l f g = refl

@@ -1,27 +1,24 @@
--- The theorems of `specs/Theorems.antt` about essential primes and about two calls that keep one promise. Assumes nothing.
-use mathlib.Core.Path.{_≡_, refl, sym, ap, _∙_, subst, subst⁻¹}
+-- The theorems of `specs/Theorems.antt` about essential primes, about 002's Theorem 4 and about two calls that keep one promise. Assumes nothing.
+use mathlib.Core.Path.{_≡_, refl, subst, subst⁻¹}
 use mathlib.Core.List.{List}
-use Prim.Native.Nat.{ℕ, _^_, _<_}
+use Prim.Native.Nat.{ℕ}
 use lib.Dec.{T, lit<}
 use Rattle.numbers.specs.Below.{wordOf}
-use Rattle.cube.specs.Words.{onSet, cubeMatches, cubeOf, implicant, essential}
-use Rattle.cube.specs.Calls.{countAnswer}
-use Rattle.cube.specs.declared.Counted.{Counted}
-use Rattle.cube.specs.declared.Counted.the-variants.{Count, Refused}
-use Rattle.cube.proofs.Calls.{refuses-gives, same-number, same-value}
+use Rattle.cube.specs.Words.{cubeMatches, cubeOf, implicant, essential}
+use Rattle.cube.proofs.Calls.{listed-alike}
 use Rattle.cube.proofs.Implicants.{implicant-at, implicant-by, prime-implicant}
 use Rattle.cube.proofs.Theorems.{meanings}
 use Rattle.neighbours.specs.Vicinity.{keptBits, vicinity}
 use Rattle.neighbours.specs.Theorems.{FromWanted, EssentialsFromNeighbours, PrintedTheorem, threeWanted, NotAsPrinted, WriteTheSame}
-use Rattle.neighbours.proofs.Neighbours.{vicinity-essential, from-wanted}
+use Rattle.neighbours.proofs.Vicinity.{vicinity-essential, from-wanted}
 
 -- ---- document 02's sentences
 
 essential-implicant : (n : ℕ) (t : List ℕ) (q : ℕ) → T (essential n t q) → T (implicant n t q)
 essential-implicant n t q h = prime-implicant n t q (meanings n t .essential-is q .0 h .0)
 
-arises-essential : (n : ℕ) (t : List ℕ) (q : ℕ) → T (implicant n t q) → FromWanted n t q → T (essential n t q)
-arises-essential n t q i f =
+wanted-essential : (n : ℕ) (t : List ℕ) (q : ℕ) → T (implicant n t q) → FromWanted n t q → T (essential n t q)
+wanted-essential n t q i f =
     subst (λ (p : ℕ). T (essential n t p)) (f .cube)
     (vicinity-essential n t (f .code) (f .below) (subst⁻¹ (λ (p : ℕ). T (implicant n t p)) (f .cube) i) (f .wanted))
 
@@ -32,7 +29,7 @@ essentials-from-neighbours n t = record {
     λ f. vicinity-essential n t c l (implicant-by n t (vicinity n t c) (λ b m y o. f b m o y)) w,
   );
   every-one = from-wanted n t;
-  essentials = λ q l. (λ h. (essential-implicant n t q h, from-wanted n t q l h), λ r. arises-essential n t q (r .0) (r .1));
+  essentials = λ q l. (λ h. (essential-implicant n t q h, from-wanted n t q l h), λ r. wanted-essential n t q (r .0) (r .1));
 }
 
 -- ---- 002's Theorem 4
@@ -45,21 +42,16 @@ matches-3 : T (cubeMatches 2 8 3)
 unfolding cubeMatches
 matches-3 = tt
 
+from-0 : FromWanted 2 threeWanted 8
+from-0 = record { code = 0; below = lit< tt; wanted = tt; cube = vicinity-of-0 }
+
 fails : PrintedTheorem 2 threeWanted → ⊥
-fails f =
-    let h : T (essential 2 threeWanted 8) = f 8 (lit< tt) .1 (record { code = 0; below = lit< tt; wanted = tt; cube = vicinity-of-0 }) in
-    implicant-at 2 threeWanted 8 (essential-implicant 2 threeWanted 8 h) 3 (lit< tt) matches-3 tt
+fails f = implicant-at 2 threeWanted 8 (essential-implicant 2 threeWanted 8 (f 8 (lit< tt) .1 from-0)) 3 (lit< tt) matches-3 tt
 
 pub not-as-printed : NotAsPrinted
 not-as-printed = record { vicinity-of-0 = vicinity-of-0; matches-3 = matches-3; fails = fails }
 
 -- ---- two calls that keep one promise
 
-same-answer : (r s : Counted) → countAnswer r ≡ countAnswer s → r ≡ s
-same-answer (Count j) (Count k) e = ap Count (same-value j k e)
-same-answer (Refused j) (Refused k) e = ap Refused (same-number j k e)
-same-answer (Count j) (Refused k) e = absurd (refuses-gives k j (sym e))
-same-answer (Refused j) (Count k) e = absurd (refuses-gives j k e)
-
 pub write-the-same : (n : ℕ) (t old : List ℕ) → WriteTheSame n t old
-write-the-same n t old new other r s p q = record { places = p .places ∙ sym (q .places); counts = same-answer r s (p .answer ∙ sym (q .answer)) }
+write-the-same n t old new other r s p q = let a = listed-alike r s p q in record { places = a .0; answers = a .1 }

@@ -1,6 +1,5 @@
 // An ascending list in the first places of a slice, each number once: where a number belongs, and putting it there.
-ghost use mathlib.Core.Path.{_≡_};
-ghost use Prim.Native.Nat.{ℕ, _<_, _≤_};
+ghost use Prim.Native.Nat.{_<_, _≤_};
 ghost use lib.ListN.{length, take};
 ghost use Rattle.numbers.specs.Lent.{Puts};
 ghost use Rattle.neighbours.specs.Steps.{PlaceOf, insertedAt};

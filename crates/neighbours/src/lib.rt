@@ -1,6 +1,6 @@
 // Essentials from the neighbours: of each wanted code the bits whose flipping gives a barred code are kept, and the cube of those
-// bits is listed if it matches no barred code. There is no chart, no list of primes and no array: beside the lent places the call
-// needs a few words.
+// bits, the vicinity of the code, is listed if it matches no barred code. There is no chart, no list of primes and no array that
+// grows with the width: beside the lent places the call needs a few words.
 //
 //     let mut places = [0u16; 9];
 //     neighbours::essentials_by_neighbours(2, &[1, 0, 0, 2], &mut places)     // count 1: cube 0 (00); both neighbours of 0 are barred
@@ -9,59 +9,60 @@ mod vicinities;
 
 use ascending::Place;
 use cube::Counted;
-use vicinities::Vicinity;
+use vicinities::Kept;
 ghost use mathlib.Core.Path.{_≡_};
 ghost use mathlib.Core.Bool.{true, cond};
-ghost use Prim.Native.Nat.{ℕ, _+_, _<_, _≤_, _^_};
+ghost use Prim.Native.Nat.{_+_, _<_, _≤_, _^_};
 ghost use lib.ListN.{length, take};
 ghost use Rattle.numbers.specs.Below.{some};
 ghost use Rattle.numbers.specs.Lent.{Puts};
 ghost use Rattle.cube.specs.Words.{onSet, essentialsOf};
 ghost use Rattle.cube.specs.Calls.{widest, Listed};
 ghost use Rattle.tables.specs.Listing.{primesRefuses};
-ghost use Rattle.neighbours.specs.Steps.{barredMatch, arising, insertedAt, Listing};
+ghost use Rattle.neighbours.specs.Steps.{barredMatch, foundBelow, insertedAt, FoundSoFar};
 
-// Puts the cube of a vicinity before place `at` of the listed ones, unless it matches a barred code, and returns how many are listed.
+// Puts the cube of what code c keeps before place `at` of the listed ones, unless it matches a barred code, and returns how many
+// are listed.
 fn add_implicant(
     table: &[u8],
     c: usize,
-    v: Vicinity,
+    kept: Kept,
     at: usize,
     out: &mut [u16],
     count: usize,
 ) -> usize
-    requires { ⌜ (v .cube < 3 ^ widest) × (at ≤ count) × (count < length (now out)) ⌝ }
-    ensures { λ r. ⌜ Puts (cond (some (length (now (table .entry))) (barredMatch (now (table .entry)) c (v .kept)))
-        (take count (now (out .entry))) (insertedAt at (v .cube) (take count (now (out .entry)))))
+    requires { ⌜ (kept .cube < 3 ^ widest) × (at ≤ count) × (count < length (now out)) ⌝ }
+    ensures { λ r. ⌜ Puts (cond (some (length (now (table .entry))) (barredMatch (now (table .entry)) c (kept .bits)))
+        (take count (now (out .entry))) (insertedAt at (kept .cube) (take count (now (out .entry)))))
         (now (out .entry)) 0 (now (out .exit)) r ⌝ }
 {
-    if vicinities::matches_barred(table, c, v.kept) {
+    if vicinities::matches_barred(table, c, kept.bits) {
         return count;
     }
-    ascending::insert_at(v.cube as u16, at, out, count)
+    ascending::insert_at(kept.cube as u16, at, out, count)
 }
 
-// Lists the cube of a wanted code, unless it is listed already or matches a barred code, and returns how many are listed.
-fn add_cube(n: usize, table: &[u8], c: usize, out: &mut [u16], count: usize) -> usize
-    requires { ⌜ Listing n (now table) (now out) c count × (onSet (now table) c ≡ true) ⌝ }
-    ensures { λ r. ⌜ Puts (arising n (now (table .entry)) (c + 1)) (now (out .entry)) 0 (now (out .exit)) r ⌝ }
+// Lists the vicinity of a wanted code, unless it is listed already or matches a barred code, and returns how many are listed.
+fn add_vicinity(n: usize, table: &[u8], c: usize, out: &mut [u16], count: usize) -> usize
+    requires { ⌜ FoundSoFar n (now table) (now out) c count × (onSet (now table) c ≡ true) ⌝ }
+    ensures { λ r. ⌜ Puts (foundBelow n (now (table .entry)) (c + 1)) (now (out .entry)) 0 (now (out .exit)) r ⌝ }
 {
-    let v = vicinities::vicinity_of(n, table, c);
-    match ascending::place_of(v.cube as u16, out, count) {
+    let kept = vicinities::kept_bits(n, table, c);
+    match ascending::place_of(kept.cube as u16, out, count) {
         Place::There => count,
-        Place::Before(at) => add_implicant(table, c, v, at, out, count),
+        Place::Before(at) => add_implicant(table, c, kept, at, out, count),
     }
 }
 
-// Lists the cube that arises from code c, if it is wanted, and returns how many are listed.
+// Lists what is found at code c, nothing if it is not wanted, and returns how many are listed.
 fn add_code(n: usize, table: &[u8], c: usize, out: &mut [u16], count: usize) -> usize
-    requires { ⌜ Listing n (now table) (now out) c count ⌝ }
-    ensures { λ r. ⌜ Puts (arising n (now (table .entry)) (c + 1)) (now (out .entry)) 0 (now (out .exit)) r ⌝ }
+    requires { ⌜ FoundSoFar n (now table) (now out) c count ⌝ }
+    ensures { λ r. ⌜ Puts (foundBelow n (now (table .entry)) (c + 1)) (now (out .entry)) 0 (now (out .exit)) r ⌝ }
 {
     if table[c] != 1 {
         return count;
     }
-    add_cube(n, table, c, out, count)
+    add_vicinity(n, table, c, out, count)
 }
 
 // Lists the essential primes of a table of n variables, ascending, and returns their number.

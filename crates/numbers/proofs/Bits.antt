@@ -23,7 +23,7 @@ unfolding wordOf
 word-lt zero f = lit< tt
 word-lt (suc m) f = omega (arith, pow-suc 2 m, word-lt m f, flag-times (f m) (2 ^ m))
 
--- one more code, as a loop has it
+-- one more number, as a loop has it
 pub word-more : (m : ℕ) (f : ℕ → Bool) {w w′ : ℕ} → w ≡ wordOf m f → w′ ≡ w + flag (f m) * 2 ^ m → w′ ≡ wordOf (m + 1) f
 unfolding wordOf
 word-more m f e g = g ∙ ap (λ (i : ℕ). i + flag (f m) * 2 ^ m) e ∙ sym (ap (λ (i : ℕ). wordOf i f) (add-one m))
@@ -33,7 +33,7 @@ unfolding wordOf
 word-same zero f g e = refl
 word-same (suc m) f g e = ap₂ (λ (i : ℕ) (x : Bool). i + flag x * 2 ^ m) (word-same m f g (λ c l. e c (omega arith))) (e m (lt-suc-self m))
 
--- a word is not empty exactly when some code passes
+-- it is not 0 exactly when some number passes
 pub word-some : (m : ℕ) (f : ℕ → Bool) → some m f ≡ ltb 0 (wordOf m f)
 unfolding wordOf some
 word-some zero f = refl
@@ -43,7 +43,7 @@ word-some (suc m) f = go (f m) (word-some m f)
     go true e = sym (lt-ltb 0 (wordOf m f + flag true * 2 ^ m) (omega (arith, pow-pos m)))
     go false e = let same : wordOf m f ≡ wordOf m f + flag false * 2 ^ m = omega arith in e ∙ ap (ltb 0) same
 
--- ---- bit c of the word is the test of c
+-- ---- bit c is the test of c
 
 even : (x y : ℕ) → (x + y * 2) % 2 ≡ x % 2
 even x y = omega arith

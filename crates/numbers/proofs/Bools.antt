@@ -92,6 +92,10 @@ holds a e = subst⁻¹ T e tt
 pub eqb-of : (a b : ℕ) → a ≡ b → T (eqb a b)
 eqb-of a b e = subst (λ (i : ℕ). T (eqb a i)) e (eqb-refl a)
 
+pub holds-or-not : (a : Bool) → T a ⊎ (T a → ⊥)
+holds-or-not true = inl tt
+holds-or-not false = inr (λ h. h)
+
 pub lt-or-le : (a b : ℕ) → (a < b) ⊎ (b ≤ a)
 lt-or-le a b = go (ltb a b) refl
   where

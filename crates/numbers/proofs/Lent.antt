@@ -1,5 +1,5 @@
--- Writing into a lent list from the front: runs of stores that join, a part of the list that is lent on for a copy, a pass that stores a value for
--- each number that passes a test, and a pass that fills a list with a function's values. Assumes nothing.
+-- Writing into a lent list from the front: runs of stores that join, a part of the list that is lent on for a copy, a list over one that is not longer, a
+-- pass that stores a value for each number that passes a test, and a pass that fills a list with a function's values. Assumes nothing.
 use mathlib.Core.Path.{_≡_, refl, sym, ap, ap₂, _∙_, subst, subst₂}
 use mathlib.Core.Bool.{Bool, true, false, cond}
 use mathlib.Core.List.{List, [], _∷_, _++_, append-nil, append-assoc, map, map-id}

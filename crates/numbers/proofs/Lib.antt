@@ -1,5 +1,5 @@
--- The laws of tests, of the numbers below a bound, of numbers whose bits tell which of them pass, of those of a list that pass and of lists that are written from the front; and the definitions on one
--- example.
+-- The laws of tests, of the numbers below a bound, of numbers whose bits tell which of them pass, of those of a list that pass and of lists that are written
+-- from the front; and the definitions on one example.
 pub mod Bools
 pub mod Flags
 pub mod Below

@@ -1,11 +1,9 @@
--- `neighbours::add_code` meets its contract: nothing arises from a code that is not wanted. Assumes nothing.
-use mathlib.Core.Path.{_≡_}
-use mathlib.Core.Bool.{true, false}
+-- `neighbours::add_code` meets its contract: nothing foundAt from a code that is not wanted. Assumes nothing.
 use native.Mathlib.Omega.{arith}
 use borrow.Author.Needs.{needs}
 use borrow.Author.Tests.{eq-eqb, ne-eqb}
 use Rattle.cube.specs.Words.{cell}
-use Rattle.neighbours.proofs.Arising.{not-wanted}
+use Rattle.neighbours.proofs.Finding.{not-wanted}
 use Rattle.neighbours.proofs.add_code.Statement.{statement}
 use Rattle.neighbours.proofs.add_code.Tie as tie
 
@@ -18,8 +16,8 @@ returns c =
     not-wanted (s .args .n) (s .args .table .now) (s .args .out .now) (s .args .c) (s .args .count) (s .pre)
     (ne-eqb (cell (s .args .table .now) (s .args .c)) 1 (λ e. omega (arith, e, c .if1 .taken)))
 
-add-cube-requires : tie.Need-add-cube-requires
-add-cube-requires c κs =
+add-vicinity-requires : tie.Need-add-vicinity-requires
+add-vicinity-requires c κs =
     let s = c .before .before .before .before .before in
     (s .pre, eq-eqb (cell (s .args .table .now) (s .args .c)) 1 (omega (arith, c .before .if1 .left)))
 
@@ -27,7 +25,7 @@ same-length : tie.Need-same-length
 same-length c = search needs
 
 returns-2 : tie.Need-returns-2
-returns-2 c = c .before .before .add-cube .ensures
+returns-2 c = c .before .before .add-vicinity .ensures
 
 pub add-code-spec : {M : Type 1} → statement M
-add-code-spec = tie.close (tie.spec shared-slice-read-if1 returns add-cube-requires same-length returns-2)
+add-code-spec = tie.close (tie.spec shared-slice-read-if1 returns add-vicinity-requires same-length returns-2)

@@ -1,7 +1,6 @@
 -- `neighbours::add_implicant` meets its contract: by whether a barred code agrees. Assumes nothing.
-use mathlib.Core.Path.{_≡_, refl, sym, ap, _∙_}
+use mathlib.Core.Path.{refl, sym, ap, _∙_}
 use mathlib.Core.Bool.{Bool, cond}
-use mathlib.Core.List.{List}
 use native.Mathlib.Omega.{arith}
 use lib.ListN.{take}
 use borrow.Author.Needs.{needs}
@@ -17,7 +16,7 @@ returns : tie.Need-returns
 returns c =
     let s = c .before .before .before .before in
     let listed = take (s .args .count) (s .args .out .now) in
-    puts-same (ap (λ (b : Bool). cond b listed (insertedAt (s .args .at) (s .args .v .cube) listed)) (sym (c .if1 .taken) ∙ c .before .matches-barred .ensures))
+    puts-same (ap (λ (b : Bool). cond b listed (insertedAt (s .args .at) (s .args .kept .cube) listed)) (sym (c .if1 .taken) ∙ c .before .matches-barred .ensures))
     (puts-there (omega (arith, s .pre)) refl)
 
 cast-insert-at : tie.Need-cast-insert-at
@@ -34,7 +33,7 @@ returns-2 c =
     let s = c .before .before .before .before .before .before .before .before .before .args in
     let listed = take (s .count) (s .out .now) in
     puts-same
-    (ap (λ (b : Bool). cond b listed (insertedAt (s .at) (s .v .cube) listed)) (sym (c .before .before .before .before .before .if1 .left) ∙ c .before .before .before .before .before .before .matches-barred .ensures))
+    (ap (λ (b : Bool). cond b listed (insertedAt (s .at) (s .kept .cube) listed)) (sym (c .before .before .before .before .before .if1 .left) ∙ c .before .before .before .before .before .before .matches-barred .ensures))
     (c .before .before .insert-at .ensures)
 
 pub add-implicant-spec : {M : Type 1} → statement M

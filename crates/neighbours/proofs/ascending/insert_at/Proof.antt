@@ -3,7 +3,6 @@ use mathlib.Core.Path.{_≡_}
 use Prim.Native.Nat.{_-_, _<_, _≤_}
 use native.Mathlib.Omega.{arith}
 use lib.ListN.{length, length-set}
-use borrow.Author.Needs.{needs}
 use Rattle.numbers.proofs.Lent.{puts-long}
 use Rattle.neighbours.proofs.Inserting.{Moved, moved-none, moved-more, moved-all}
 use Rattle.neighbours.proofs.ascending.insert_at.Statement.{statement}

@@ -15,11 +15,11 @@ shared-slice-read-if1 c = search needs
 returns : tie.Need-returns
 returns c =
     let s = c .before .before .args in
-    sym (ap (λ (b : Bool). b && agrees (s .c) (s .kept) (s .x)) (ne-eqb (cell (s .table .now) (s .x)) 0 (λ e. omega (arith, e, c .if1 .taken))))
+    sym (ap (λ (b : Bool). b && agrees (s .c) (s .bits) (s .x)) (ne-eqb (cell (s .table .now) (s .x)) 0 (λ e. omega (arith, e, c .if1 .taken))))
 
 returns-2 : tie.Need-returns-2
 returns-2 c =
-    let s = c .before .before .args in sym (ap (λ (b : Bool). b && agrees (s .c) (s .kept) (s .x)) (eq-eqb (cell (s .table .now) (s .x)) 0 (omega (arith, c .if1 .left))))
+    let s = c .before .before .args in sym (ap (λ (b : Bool). b && agrees (s .c) (s .bits) (s .x)) (eq-eqb (cell (s .table .now) (s .x)) 0 (omega (arith, c .if1 .left))))
 
 pub is-barred-match-spec : {M : Type 1} → statement M
 is-barred-match-spec = tie.close (tie.spec shared-slice-read-if1 returns returns-2)

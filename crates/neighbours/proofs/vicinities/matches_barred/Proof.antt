@@ -12,10 +12,10 @@ use Rattle.neighbours.proofs.vicinities.matches_barred.Statement.{state
 use Rattle.neighbours.proofs.vicinities.matches_barred.Tie as tie
 
 abbrev Inv-loop : tie.InvT-loop
-Inv-loop table c kept x₀ x = (x ≤ length table) × ((k : ℕ) → k < x → barredMatch table c kept k ≡ false)
+Inv-loop table c bits x₀ x = (x ≤ length table) × ((k : ℕ) → k < x → barredMatch table c bits k ≡ false)
 
 abbrev μ-loop : tie.MeasureT-loop
-μ-loop table c kept x₀ x = length table - x
+μ-loop table c bits x₀ x = length table - x
 
 loop-holds : tie.Need-loop-holds Inv-loop μ-loop
 loop-holds c = (search needs, λ k l. absurd (omega arith))
@@ -26,7 +26,7 @@ is-barred-match-requires c κs = omega arith
 returns : tie.Need-returns Inv-loop μ-loop
 returns c =
     let s = c .before .before .before .before .before .args in
-    sym (some-found _ (barredMatch (s .table .now) (s .c) (s .kept)) _ (c .before .before .loop-test .taken) (sym (c .before .is-barred-match .ensures) ∙ c .if1 .taken))
+    sym (some-found _ (barredMatch (s .table .now) (s .c) (s .bits)) _ (c .before .before .loop-test .taken) (sym (c .before .is-barred-match .ensures) ∙ c .if1 .taken))
 
 add-x : tie.Need-add-x Inv-loop μ-loop
 add-x c = omega arith
@@ -40,7 +40,7 @@ loop-again c = (omega arith, below-more _ _ (c .before .before .before .loop .in
 returns-2 : tie.Need-returns-2 Inv-loop μ-loop
 returns-2 c =
     let s = c .before .before .before .args in
-    sym (some-none _ (barredMatch (s .table .now) (s .c) (s .kept)) (λ k l. c .before .loop .inv .1 k (omega arith)))
+    sym (some-none _ (barredMatch (s .table .now) (s .c) (s .bits)) (λ k l. c .before .loop .inv .1 k (omega arith)))
 
 pub matches-barred-spec : {M : Type 1} → statement M
 matches-barred-spec = tie.close (tie.spec Inv-loop μ-loop loop-holds is-barred-match-requires returns add-x loop-less loop-again returns-2)

@@ -1,7 +1,6 @@
 -- `neighbours::vicinities::with_bit` meets its contract: by the cell of the neighbour. Assumes nothing.
-use mathlib.Core.Path.{_≡_, refl, sym, ap, _∙_}
-use mathlib.Core.Bool.{true, false}
-use Prim.Native.Nat.{ℕ, _+_, _*_, _/_, _%_, _^_}
+use mathlib.Core.Path.{refl, ap}
+use Prim.Native.Nat.{ℕ, _+_, _*_, _/_, _%_}
 use native.Mathlib.Omega.{arith}
 use lib.Bits.{bitXor}
 use lib.Pow.{pow-pos}
@@ -33,7 +32,7 @@ returns : tie.Need-returns
 returns c =
     let s = c .before .before .before .before .before .before .args in
     let w = c .before .before .before .before .codes .ensures in
-    bit-not-kept (s .table .now) (s .c) (s .k) (s .v) _
+    bit-not-kept (s .table .now) (s .c) (s .k) (s .kept) _
     (ne-eqb (cell (s .table .now) (neighbour (s .k) (s .c))) 0 (λ e. omega (arith, e, ap (λ (i : ℕ). cell (s .table .now) (bitXor (s .c) i)) w, c .before .before .if1 .taken))) refl refl
 
 mul-t6 : tie.Need-mul-t6
@@ -55,9 +54,9 @@ returns-2 : tie.Need-returns-2
 returns-2 c =
     let s = c .before .before .before .before .before .before .args in
     let w = c .before .before .before .before .codes .ensures in
-    bit-kept (s .table .now) (s .c) (s .k) (s .v) _
+    bit-kept (s .table .now) (s .c) (s .k) (s .kept) _
     (eq-eqb (cell (s .table .now) (neighbour (s .k) (s .c))) 0 (omega (arith, ap (λ (i : ℕ). cell (s .table .now) (bitXor (s .c) i)) w, c .before .before .if1 .left))) refl
-    (ap (λ (i : ℕ). 3 * s .v .cube + s .c / i % 2) w)
+    (ap (λ (i : ℕ). 3 * s .kept .cube + s .c / i % 2) w)
 
 pub with-bit-spec : {M : Type 1} → statement M
 with-bit-spec =

@@ -3,20 +3,19 @@
 -- gives a code that is not barred, some prime matches both codes, and an essential prime that alone matches the wanted one is that prime. Assumes nothing.
 use mathlib.Core.Path.{_≡_, refl, sym, ap, _∙_, subst, subst⁻¹}
 use mathlib.Core.Logic.{_⊎_, inl, inr, ⊎-elim}
-use mathlib.Core.Bool.{Bool, true, false, not}
+use mathlib.Core.Bool.{Bool, not}
 use mathlib.Core.List.{List}
 use Prim.Native.Nat.{ℕ, _-_, _^_, _<_}
 use native.Mathlib.Omega.{arith}
-use lib.Dec.{T, eqb, eqb→eq, lit<}
-use Rattle.numbers.specs.Below.{flag, some, wordOf}
-use Rattle.cube.specs.Words.{onSet, offSet, fits, tested, digit, cubeMatches, digitOf, cubeOf, implicant, prime, essential}
-use Rattle.numbers.proofs.Bools.{and-l, and-r, and-i, not-e, not-i, is-true, is-false, eqb-of, eq-or-ne}
-use Rattle.numbers.proofs.Below.{none-by}
+use lib.Dec.{T, eqb, eqb→eq}
+use Rattle.numbers.specs.Below.{flag, wordOf}
+use Rattle.cube.specs.Words.{onSet, offSet, fits, digit, cubeMatches, digitOf, cubeOf, implicant, prime, essential}
+use Rattle.numbers.proofs.Bools.{not-e, not-i, is-true, is-false, eqb-of, holds-or-not, eq-or-ne}
 use Rattle.numbers.proofs.Bits.{bit-of}
-use Rattle.cube.proofs.Digits.{bit, bit-at-lt, bit-weight, putDigit, put-digit, put-wider, contained, contained-matches, matches-contained, digits-same, bits-same, fits-e, fits-two, fits-same}
+use Rattle.cube.proofs.Digits.{bit, bit-at-lt, bit-weight, contained, contained-matches, matches-contained, digits-same, bits-same, fits-e, fits-two, fits-same}
 use Rattle.cube.proofs.Positions.{places-of, of-places}
 use Rattle.cube.proofs.Rows.{cube-lt, cube-digit}
-use Rattle.cube.proofs.Implicants.{implicant-at, implicant-by, expands, maximal, prime-is-maximal, prime-implicant, prime-within, prime-above}
+use Rattle.cube.proofs.Implicants.{implicant-at, implicant-by, prime-implicant, prime-within, prime-above}
 use Rattle.cube.proofs.Theorems.{meanings, not-barred}
 use Rattle.neighbours.specs.Vicinity.{neighbour, keptBits, vicinity}
 use Rattle.neighbours.specs.Theorems.{VicinityDigits, FromWanted}
@@ -24,35 +23,30 @@ use Rattle.neighbours.proofs.Flipping.{neighbour-lt, flipped-bit, other
 
 -- ---- the cube of those bits of code c that pass a test
 
--- a test passes or not
-passes-or-not : (b : Bool) → T b ⊎ (T b → ⊥)
-passes-or-not true = inl tt
-passes-or-not false = inr (λ h. h)
-
 module _ (n : ℕ) (f : ℕ → Bool) (c : ℕ) where
-  abbrev keeping : ℕ
-  keeping = cubeOf n c (wordOf n f)
+  abbrev cubeOn : ℕ
+  cubeOn = cubeOf n c (wordOf n f)
 
-  its-digit : (k : ℕ) → k < n → digit k keeping ≡ digitOf (bit k c) (flag (f k))
+  its-digit : (k : ℕ) → k < n → digit k cubeOn ≡ digitOf (bit k c) (flag (f k))
   its-digit k l = cube-digit n c (wordOf n f) k l ∙ ap (digitOf (bit k c)) (bit-weight k (wordOf n f) ∙ bit-of n f k l)
 
-  kept-digit : (k : ℕ) → k < n → T (f k) → digit k keeping ≡ bit k c
+  kept-digit : (k : ℕ) → k < n → T (f k) → digit k cubeOn ≡ bit k c
   kept-digit k l h = its-digit k l ∙ ap (λ (b : Bool). digitOf (bit k c) (flag b)) (is-true (f k) h)
 
-  untested-digit : (k : ℕ) → k < n → (T (f k) → ⊥) → digit k keeping ≡ 2
+  untested-digit : (k : ℕ) → k < n → (T (f k) → ⊥) → digit k cubeOn ≡ 2
   untested-digit k l h = its-digit k l ∙ ap (λ (b : Bool). digitOf (bit k c) (flag b)) (is-false (f k) h)
 
   -- it matches the codes that have the same bits there, and so the code itself
-  keeping-matches : (x : ℕ) → ((k : ℕ) → k < n → T (f k) → bit k x ≡ bit k c) → T (cubeMatches n keeping x)
-  keeping-matches x g =
-      of-places n keeping x λ k l.
-      ⊎-elim (λ h. fits-same (digit k keeping) (bit k x) (kept-digit k l h ∙ sym (g k l h)))
-      (λ h. fits-two (digit k keeping) (bit k x) (untested-digit k l h)) (passes-or-not (f k))
+  on-matches : (x : ℕ) → ((k : ℕ) → k < n → T (f k) → bit k x ≡ bit k c) → T (cubeMatches n cubeOn x)
+  on-matches x g =
+      of-places n cubeOn x λ k l.
+      ⊎-elim (λ h. fits-same (digit k cubeOn) (bit k x) (kept-digit k l h ∙ sym (g k l h)))
+      (λ h. fits-two (digit k cubeOn) (bit k x) (untested-digit k l h)) (holds-or-not (f k))
 
-  keeping-agrees : (x : ℕ) → T (cubeMatches n keeping x) → (k : ℕ) → k < n → T (f k) → bit k x ≡ bit k c
-  keeping-agrees x m k l h =
+  on-agrees : (x : ℕ) → T (cubeMatches n cubeOn x) → (k : ℕ) → k < n → T (f k) → bit k x ≡ bit k c
+  on-agrees x m k l h =
       ⊎-elim (λ e. absurd (omega (arith, kept-digit k l h, bit-at-lt k c))) (λ e. sym e ∙ kept-digit k l h)
-      (fits-e (digit k keeping) (bit k x) (places-of n keeping x m k l))
+      (fits-e (digit k cubeOn) (bit k x) (places-of n cubeOn x m k l))
 
 -- an untested digit does not tell a code from its neighbour
 matches-neighbour : (n p k c : ℕ) → digit k p ≡ 2 → T (cubeMatches n p c) → T (cubeMatches n p (neighbour k c))
@@ -82,7 +76,7 @@ module _ (n : ℕ) (t : List ℕ) (c : ℕ) where
 
   vicinity-matches : (x : ℕ) → ((k : ℕ) → k < n → T (keeps k) → bit k x ≡ bit k c) → T (cubeMatches n (vicinity n t c) x)
   unfolding vicinity keptBits
-  vicinity-matches = keeping-matches n keeps c
+  vicinity-matches = on-matches n keeps c
 
   pub vicinity-digits : VicinityDigits n t c
   vicinity-digits = record {
@@ -111,34 +105,16 @@ module _ (n : ℕ) (t : List ℕ) (c : ℕ) where
             let d : digit k p ≡ bit k c = tests-kept p i m k h b in
             ⊎-elim (λ e. absurd (omega (arith, bit-at-lt k c))) (λ e. sym e ∙ d) (fits-e (digit k p) (bit k x) (places-of n p x y k h))
 
-    -- where it is an implicant it is prime, since no kept bit can be given up: 002, Theorem 2
+    -- where it is an implicant, it is the only prime that matches the code, and so it is prime itself: 002, Theorems 2 and 3
     module _ (i : T (implicant n t (vicinity n t c))) where
-      not-given-up : (k : ℕ) → k < n → T (expands n t (vicinity n t c) k) → ⊥
-      not-given-up k h x = ⊎-elim kept (λ u. not-e (eqb d 2) is-tested (eqb-of d 2 (vicinity-untested k h u))) (passes-or-not (keeps k))
-        where
-          d : ℕ
-          d = digit k (vicinity n t c)
-
-          without : ℕ
-          without = putDigit k 2 (vicinity n t c)
-
-          is-tested : T (tested d)
-          is-tested = and-l (tested d) (implicant n t without) x
-
-          kept : T (keeps k) → ⊥
-          kept b =
-              let m : T (cubeMatches n without c) = contained-matches n (vicinity n t c) without c (put-wider n k (vicinity n t c) h) own in
-              omega (arith, tests-kept without (and-r (tested d) (implicant n t without) x) m k h b, put-digit k 2 (vicinity n t c) (lit< tt), bit-at-lt k c)
-
-      vicinity-prime : T (prime n t (vicinity n t c))
-      unfolding maximal
-      vicinity-prime =
-          subst⁻¹ T (prime-is-maximal n t (vicinity n t c) vicinity-lt)
-          (and-i (implicant n t (vicinity n t c)) (not (some n (expands n t (vicinity n t c)))) i (none-by n (expands n t (vicinity n t c)) not-given-up))
-
-      -- and it alone of all primes matches the code: 002, Theorem 3
       only-prime : (p : ℕ) → p < 3 ^ n → T (prime n t p) → T (cubeMatches n p c) → p ≡ vicinity n t c
       only-prime p m h y = prime-within n t p (vicinity n t c) m vicinity-lt h i (lies-within p (prime-implicant n t p h) y)
+
+      vicinity-prime : T (prime n t (vicinity n t c))
+      vicinity-prime =
+          let above = prime-above n t (vicinity n t c) vicinity-lt i in
+          subst (λ (p : ℕ). T (prime n t p))
+          (only-prime (above .cube) (above .below) (above .is-prime) (contained-matches n (vicinity n t c) (above .cube) c (above .contains) own)) (above .is-prime)
 
       pub vicinity-essential : T (onSet t c) → T (essential n t (vicinity n t c))
       vicinity-essential w = meanings n t .essential-is (vicinity n t c) .1 (vicinity-prime, (c, l, w, own, only-prime))
@@ -151,7 +127,7 @@ module _ (n : ℕ) (t : List ℕ) (c : ℕ) where
       all-but j = not (eqb j k)
 
       pair : ℕ
-      pair = keeping n all-but c
+      pair = cubeOn n all-but c
 
       differs : (j : ℕ) → T (all-but j) → j ≡ k → ⊥
       unfolding all-but
@@ -159,11 +135,11 @@ module _ (n : ℕ) (t : List ℕ) (c : ℕ) where
 
       pair-matches : T (cubeMatches n pair c)
       unfolding pair
-      pair-matches = keeping-matches n all-but c c (λ j m d. refl)
+      pair-matches = on-matches n all-but c c (λ j m d. refl)
 
       pair-matches-neighbour : T (cubeMatches n pair (neighbour k c))
       unfolding pair
-      pair-matches-neighbour = keeping-matches n all-but c (neighbour k c) (λ j m d. other-bit k j c (differs j d))
+      pair-matches-neighbour = on-matches n all-but c (neighbour k c) (λ j m d. other-bit k j c (differs j d))
 
       -- it matches no other code
       pair-alone : (x : ℕ) → x < 2 ^ n → T (cubeMatches n pair x) → (x ≡ c) ⊎ (x ≡ neighbour k c)
@@ -171,7 +147,7 @@ module _ (n : ℕ) (t : List ℕ) (c : ℕ) where
       pair-alone x m y = ⊎-elim (λ e. inl (bits-same n x c m l (alike e))) (λ ne. inr (bits-same n x (neighbour k c) m (neighbour-lt n k c h l) (unlike ne))) (eq-or-ne (bit k x) (bit k c))
         where
           beside : (j : ℕ) → j < n → (j ≡ k → ⊥) → bit j x ≡ bit j c
-          beside j b ne = keeping-agrees n all-but c x y j b (not-i (eqb j k) (λ d. ne (eqb→eq j k d)))
+          beside j b ne = on-agrees n all-but c x y j b (not-i (eqb j k) (λ d. ne (eqb→eq j k d)))
 
           alike : bit k x ≡ bit k c → (j : ℕ) → j < n → bit j x ≡ bit j c
           alike e j b = ⊎-elim (λ d. subst⁻¹ (λ (i : ℕ). bit i x ≡ bit i c) d e) (beside j b) (eq-or-ne j k)
@@ -203,9 +179,9 @@ module _ (n : ℕ) (t : List ℕ) (c : ℕ) where
     sole-is-vicinity q m w h y only =
         digits-same n (vicinity n t c) q vicinity-lt m λ k b.
         ⊎-elim (λ d. vicinity-kept k b d ∙ sym (tests-kept q (prime-implicant n t q h) y k b d))
-        (λ d. vicinity-untested k b d ∙ sym (not-tested w k b d q y only)) (passes-or-not (keeps k))
+        (λ d. vicinity-untested k b d ∙ sym (not-tested w k b d q y only)) (holds-or-not (keeps k))
 
--- every essential prime arises from a wanted code
+-- every essential prime foundAt from a wanted code
 pub from-wanted : (n : ℕ) (t : List ℕ) (q : ℕ) → q < 3 ^ n → T (essential n t q) → FromWanted n t q
 from-wanted n t q l h =
     let e = meanings n t .essential-is q .0 h in
