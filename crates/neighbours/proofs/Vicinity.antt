@@ -181,7 +181,7 @@ module _ (n : ℕ) (t : List ℕ) (c : ℕ) where
         ⊎-elim (λ d. vicinity-kept k b d ∙ sym (tests-kept q (prime-implicant n t q h) y k b d))
         (λ d. vicinity-untested k b d ∙ sym (not-tested w k b d q y only)) (holds-or-not (keeps k))
 
--- every essential prime foundAt from a wanted code
+-- every essential prime is the vicinity of a wanted code
 pub from-wanted : (n : ℕ) (t : List ℕ) (q : ℕ) → q < 3 ^ n → T (essential n t q) → FromWanted n t q
 from-wanted n t q l h =
     let e = meanings n t .essential-is q .0 h in

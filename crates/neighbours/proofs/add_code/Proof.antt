@@ -1,4 +1,4 @@
--- `neighbours::add_code` meets its contract: nothing foundAt from a code that is not wanted. Assumes nothing.
+-- `neighbours::add_code` meets its contract: nothing is found at a code that is not wanted. Assumes nothing.
 use native.Mathlib.Omega.{arith}
 use borrow.Author.Needs.{needs}
 use borrow.Author.Tests.{eq-eqb, ne-eqb}

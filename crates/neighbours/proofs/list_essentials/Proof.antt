@@ -1,4 +1,4 @@
--- `neighbours::list_essentials` meets its contract: the cubes that arise from the codes before c are listed. Assumes nothing.
+-- `neighbours::list_essentials` meets its contract: what is found at the codes before c is listed. Assumes nothing.
 use mathlib.Core.Path.{_≡_, sym, ap, _∙_}
 use Prim.Native.Nat.{_-_, _^_, _≤_}
 use native.Mathlib.Nat.{le-trans}
