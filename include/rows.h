@@ -31,9 +31,9 @@
  * so threads may call at the same time, each with its own arrays.
  *
  * A call needs stack: allow rows_plan, rows_keep_out and rows_better 1 MB. The most that was measured on
- * x86-64, from the caller's frame down, is 273 KB for these three (287 KB with what a thread needs to start
- * and to end), 33 KB for rows_chart, 9 KB for rows_essentials, 264 bytes for rows_essentials_by_neighbours
- * and 3 KB for the other calls; no bound is proved.
+ * x86-64, from the caller's frame down, is 273 KB for these three, 33 KB for rows_chart, 9 KB for
+ * rows_essentials, 264 bytes for rows_essentials_by_neighbours and 3 KB for the other calls; an earlier
+ * measurement had 287 KB for rows_plan. No bound is proved.
  *
  * Answers
  *

@@ -5,7 +5,7 @@ use mathlib.Core.Path.{_≡_, refl, sym, ap, ap₂, _∙_, subst, subst⁻¹}
 use mathlib.Core.Logic.{_⊎_, inl, inr, ⊎-elim}
 use mathlib.Core.Bool.{Bool, true, not, _&&_}
 use Prim.Native.Nat.{ℕ, zero, suc, _+_, _*_, _^_, _/_, _%_, _<_, _≤_}
-use native.Mathlib.Nat.{not-suc-le-zero, le-of-suc-le-suc, mod-lt, pow-suc, pow-succ', div-div-eq-div-mul, div-one, mul-assoc}
+use native.Mathlib.Nat.{not-suc-le-zero, le-of-suc-le-suc, mod-lt, pow-zero, pow-suc, pow-succ', div-add-mod', div-lt-iff-lt-mul, div-div-eq-div-mul, div-one, mul-assoc}
 use native.Mathlib.Omega.{arith}
 use lib.Dec.{T, eqb, eqb→eq, eqb-refl, lit<}
 use borrow.Author.Tests.{eq-eqb, ne-eqb}
@@ -320,14 +320,24 @@ put-other (suc k) zero d q m ne = last-digit (putDigit k d (q / 3)) (q % 3) (las
 put-other (suc k) (suc j) d q m ne =
     ap (digit j) (rest-digits (putDigit k d (q / 3)) (q % 3) (last-lt q)) ∙ put-other k j d (q / 3) m (λ e. ne (ap suc e))
 
--- cubes with the same digits are the same
+-- numbers with the same digits in base b are the same: d k reads the digit at place k, counted from the last
+places-same : (b : ℕ) → 0 < b → (d : ℕ → ℕ → ℕ) → ((x : ℕ) → d 0 x ≡ x % b) → ((k x : ℕ) → d (suc k) x ≡ d k (x / b)) → (n x y : ℕ)
+    → x < b ^ n → y < b ^ n → ((k : ℕ) → k < n → d k x ≡ d k y) → x ≡ y
+places-same b pos d last rest zero x y l m f = omega (arith, pow-zero b)
+places-same b pos d last rest (suc n) x y l m f =
+    sym (div-add-mod' x b)
+    ∙ ap₂ (λ (i j : ℕ). i * b + j)
+    (places-same b pos d last rest n (x / b) (y / b) (below x l) (below y m) (λ k j. sym (rest k x) ∙ f (suc k) (omega arith) ∙ rest k y))
+    (sym (last x) ∙ f 0 (omega arith) ∙ last y)
+    ∙ div-add-mod' y b
+  where
+    below : (z : ℕ) → z < b ^ suc n → z / b < b ^ n
+    below z h = div-lt-iff-lt-mul pos .1 (subst (λ (i : ℕ). z < i) (pow-suc b n) h)
+
+-- cubes with the same digits, and codes with the same bits
 pub digits-same : (n q p : ℕ) → q < 3 ^ n → p < 3 ^ n → ((k : ℕ) → k < n → digit k q ≡ digit k p) → q ≡ p
 unfolding digit
-digits-same zero q p l m f = let e : 3 ^ 0 ≡ 1 = refl in omega arith
-digits-same (suc n) q p l m f =
-    let e : 3 ^ suc n ≡ 3 ^ n * 3 = pow-suc 3 n in
-    let r : q / 3 ≡ p / 3 = digits-same n (q / 3) (p / 3) (omega arith) (omega arith) (λ k j. f (suc k) (omega arith)) in
-    omega (arith, f 0 (omega arith))
+digits-same = places-same 3 (lit< tt) digit (λ q. refl) (λ k q. refl)
 
 -- cubes with the same digits but for the one at place k: each is the other with its own digit put there
 pub put-between : (n k q p : ℕ) → k < n → q < 3 ^ n → p < 3 ^ n → ((j : ℕ) → j < n → (j ≡ k → ⊥) → digit j q ≡ digit j p) → q ≡ putDigit k (digit k q) p
@@ -345,14 +355,9 @@ unfolding bit
 bit-at-lt zero c = bit-lt c
 bit-at-lt (suc k) c = bit-at-lt k (c / 2)
 
--- codes with the same bits are the same
 pub bits-same : (n c d : ℕ) → c < 2 ^ n → d < 2 ^ n → ((k : ℕ) → k < n → bit k c ≡ bit k d) → c ≡ d
 unfolding bit
-bits-same zero c d l m f = let e : 2 ^ 0 ≡ 1 = refl in omega arith
-bits-same (suc n) c d l m f =
-    let e : 2 ^ suc n ≡ 2 ^ n * 2 = pow-suc 2 n in
-    let r : c / 2 ≡ d / 2 = bits-same n (c / 2) (d / 2) (omega arith) (omega arith) (λ k j. f (suc k) (omega arith)) in
-    omega (arith, f 0 (omega arith))
+bits-same = places-same 2 (lit< tt) bit (λ c. refl) (λ k c. refl)
 
 matches-put : (n k d q c : ℕ) → d < 3 → T (fits d (bit k c)) → T (cubeMatches n q c) → T (cubeMatches n (putDigit k d q) c)
 unfolding putDigit bit cubeMatches
