@@ -1,16 +1,14 @@
 #!/usr/bin/env python3
 """Nodes and times of the search, and two other exact solvers on the same covering problems.
 
-    bench/bench.py               the listed tables, dense ones, the adversarial ones and random ones
-    bench/bench.py --quick       the same without the other solvers
-    bench/bench.py OTHER.a       the time in the search on the same, beside another libsearch_c.a, as an older one
+    bench/bench.py               the listed tables, those that were searched for because they are slow, and random ones
+    bench/bench.py --quick       the listed tables and the slow ones, without the other solvers
 
 It builds bench/solve.c over the proved search and bench/stack.c over the calls for C, takes the
 charts from tests/charts.py, compares every optimum with the listed one and with that of glpsol
-and cbc, and prints the times of whole processes, their ratios and the stack that was used. On an
-adversarial table glpsol has ten seconds and one run: what it does not finish counts as the time
-that it ran. Run from the top of the repository. It installs Debian's glpk-utils and coinor-cbc,
-if missing, by apt-get.
+and cbc, and prints the times of whole processes, their ratios and the stack that was used. Run
+from the top of the repository. It installs Debian's glpk-utils and coinor-cbc, if missing,
+by apt-get.
 """
 import ctypes
 import os
@@ -24,58 +22,52 @@ import time
 sys.path.insert(0, "tests")
 import charts
 
-TABLES = {"hard6": "tests/tables/hard6.txt", "dense": "tests/tables/dense.txt", "adversarial6": "tests/tables/adversarial6.txt"}
+TABLES = "tests/tables/hard6.txt"
+ADVERSARIAL = "tests/tables/adversarial6.txt"
+DENSE = "tests/tables/dense.txt"
 OUT = "target/bench"
 PROBLEM = OUT + "/problem.lp"
 SOLVERS = {"glpsol": "glpk-utils", "cbc": "coinor-cbc"}
-
-# The seconds that glpsol has for a chart of these tables.
-SECONDS = {"adversarial6": 10}
 
 
 def run(words, **more):
     return subprocess.run(words, check=True, stdout=subprocess.PIPE, stderr=subprocess.STDOUT, text=True, **more).stdout
 
 
-def timed(words, runs=3, **more):
-    """What a command writes in each of some runs, and their least wall time and processor time, in seconds."""
-    texts, wall, processor = [], [], []
-    for _ in range(runs):
+def timed(words, **more):
+    """What a command writes, and the least wall time and processor time of three runs, in seconds."""
+    wall, processor = [], []
+    for _ in range(3):
         before, start = resource.getrusage(resource.RUSAGE_CHILDREN), time.perf_counter()
-        texts.append(run(words, **more))
+        text = run(words, **more)
         wall.append(time.perf_counter() - start)
         after = resource.getrusage(resource.RUSAGE_CHILDREN)
         processor.append(after.ru_utime + after.ru_stime - before.ru_utime - before.ru_stime)
-    return texts, min(wall), min(processor)
+    return text, min(wall), min(processor)
 
 
-def build(program, source, archive):
-    run(["cc", "-O2", "-static", "-Iinclude", "-o", OUT + "/" + program, "bench/%s.c" % source, archive, "-lpthread"])
+def build(program, library):
+    run(["rt", "staticlib", library])
+    run(["cc", "-O2", "-static", "-Iinclude", "-o", OUT + "/" + program, "bench/%s.c" % program, "target/staticlib/lib%s.a" % library, "-lpthread"])
 
 
-def prepare(solvers):
+def prepare(quick):
     os.makedirs(OUT, exist_ok=True)
-    missing = [SOLVERS[solver] for solver in solvers if not shutil.which(solver)]
+    missing = [] if quick else [package for solver, package in SOLVERS.items() if not shutil.which(solver)]
     if missing:
         run(["apt-get", "update"])
         run(["apt-get", "install", "-y", "--no-install-recommends"] + missing)
-    for program, library in ("solve", "search_c"), ("stack", "installer"):
-        run(["rt", "staticlib", library])
-        build(program, program, "target/staticlib/lib%s.a" % library)
+    build("solve", "search_c")
+    build("stack", "installer")
 
 
-def problems():
-    """The problems to measure: for each name the charts, and the listed optima or None."""
-    for name, path in TABLES.items():
-        tables = list(charts.tables(path))
-        yield name, [charts.chart(width, cells) for width, cells, _ in tables], [weight for _, _, weight in tables]
-    yield "random", charts.random_charts(1956, 500), None
-
-
-def answers_of(texts):
-    """What bench/solve.c writes in some runs, as a list of (rows, weight, nodes, depth, microseconds): of the times for a chart the least."""
-    runs = [[line.split()[1:] for line in text.splitlines()] for text in texts]
-    return [(*map(int, chart[0][:4]), min(float(words[4]) for words in chart)) for chart in zip(*runs)]
+def search(texts):
+    """What the search answers to problems as text: a list of (rows, weight, nodes, depth, microseconds), the stack, wall and processor time."""
+    text = "\n".join(texts)
+    out, wall, processor = timed([OUT + "/solve"], input=text)
+    answers = [tuple(float(word) if "." in word else int(word) for word in line.split()[1:]) for line in out.splitlines()]
+    stack = run([OUT + "/solve", "stack"], input=text).split()[-1]
+    return answers, int(stack), wall, processor
 
 
 def each_alone(words, texts):
@@ -98,42 +90,25 @@ def write_program(path, columns, rows):
     open(path, "w").write("\n".join(lines) + "\n")
 
 
-def other(solver, columns, rows, seconds):
-    """The optimum of another solver, or None where it did not finish, and the wall and processor time of its process."""
+def other(solver, columns, rows):
+    """The optimum of another solver, and the wall and processor time of its process."""
     write_program(PROBLEM, columns, rows)
-    if solver == "cbc":
-        texts, wall, processor = timed(["cbc", PROBLEM, "solve", "solu", OUT + "/answer"])
-        line = re.search(r"Objective value: +(\d+)\.0+$", texts[0], re.M)
-    else:
-        limit, runs = (["--tmlim", str(seconds)], 1) if seconds else ([], 3)
-        _, wall, processor = timed(["glpsol", "--lp", PROBLEM, "-w", OUT + "/answer"] + limit, runs)
+    if solver == "glpsol":
+        _, wall, processor = timed(["glpsol", "--lp", PROBLEM, "-w", OUT + "/answer"])
         line = re.search(r"^s mip \d+ \d+ o (\d+)", open(OUT + "/answer").read(), re.M)
-    return int(line.group(1)) if line else None, wall, processor
+    else:
+        text, wall, processor = timed(["cbc", PROBLEM, "solve", "solu", OUT + "/answer"])
+        line = re.search(r"Objective value: +(\d+)\.0+$", text, re.M)
+    return int(line.group(1)), wall, processor
 
 
-def report_other(solver, found, answers, seconds, wall, processor, alone):
-    """Prints the time of another solver beside ours, and returns how many optima differ. What it did not finish differs where it had no limit of time."""
-    total, used, differ, unfinished = 0, 0, 0, 0
-    for (columns, rows), (_, weight, *_) in zip(found, answers):
-        if columns:
-            optimum, took, busy = other(solver, columns, rows, seconds)
-            total, used = total + took, used + busy
-            unfinished += optimum is None
-            differ += optimum != weight and not (seconds and optimum is None)
-    print("%s, a process for each chart: %.1f ms wall, %.1f ms processor; %d optima differ%s" % (
-        solver, total * 1e3, used * 1e3, differ, "; %d charts not finished in %d s" % (unfinished, seconds) if seconds and solver == "glpsol" else ""))
-    print("    times as long as one process of ours: %.1f wall, %.1f processor; as a process of ours for each chart: %.1f wall" % (
-        total / wall, used / processor, total / alone))
-    return differ
-
-
-def library(found):
+def library(problems):
     """The time that glpk's library takes to solve problems, without reading them and without a process for each."""
     glpk = ctypes.CDLL("libglpk.so.40")
     glpk.glp_create_prob.restype = ctypes.c_void_p
     glpk.glp_term_out(0)
     took = 0
-    for columns, rows in found:
+    for columns, rows in problems:
         if columns:
             write_program(PROBLEM, columns, rows)
             problem = ctypes.c_void_p(glpk.glp_create_prob())
@@ -147,73 +122,58 @@ def library(found):
     return took
 
 
-def report_search(name, texts, listed):
-    """Prints what the search took, and returns its answers, how many are not the listed optimum, and the wall and processor time of one process for all."""
-    text = "\n".join(texts)
-    outs, wall, processor = timed([OUT + "/solve"], input=text)
-    answers, stack = answers_of(outs), int(run([OUT + "/solve", "stack"], input=text).split()[-1])
-    for number, (rows, weight, nodes, depth, took) in enumerate(answers if name == "hard6" else []):
+def report(name, problems, listed, solvers, lines):
+    texts = [charts.show(*problem) for problem in problems]
+    answers, stack, wall, processor = search(texts)
+    for number, (rows, weight, nodes, depth, took) in enumerate(answers if lines else []):
         print("%s %3d: %2d rows, weight %6d, %4d nodes, depth %2d, %8.1f us" % (name, number, rows, weight, nodes, depth, took))
     wrong = sum(weight != right for (_, weight, *_), right in zip(answers, listed or []))
-    print("\n%s: %d charts of %d rows in all%s" % (
-        name, len(answers), sum(a[0] for a in answers), "" if listed is None else ", %d not at the listed optimum" % wrong))
+    print("\n%s: %d charts of %d rows in all%s" % (name, len(answers), sum(a[0] for a in answers), "" if listed is None else ", %d not at the listed optimum" % wrong))
     print("nodes: %d in all, %d at most; depth of calls: %d at most; stack: %d bytes" % (
         sum(a[2] for a in answers), max(a[2] for a in answers), max(a[3] for a in answers), stack))
     print("time in the search: %.1f ms in all, %.2f ms at most" % (sum(a[4] for a in answers) / 1e3, max(a[4] for a in answers) / 1e3))
     print("one process for all charts: %.1f ms wall, %.1f ms processor" % (wall * 1e3, processor * 1e3))
-    return answers, wrong, wall, processor
-
-
-def report(name, found, listed, solvers):
-    """Prints what the search and the other solvers took, and returns how many answers are wrong."""
-    texts = [charts.show(*problem) for problem in found]
-    answers, wrong, wall, processor = report_search(name, texts, listed)
     if not solvers:
         return wrong
-    alone, alone_processor = each_alone([OUT + "/solve"], texts)
-    print("a process for each chart: %.1f ms wall, %.1f ms processor" % (alone * 1e3, alone_processor * 1e3))
+    alone_wall, alone_processor = each_alone([OUT + "/solve"], texts)
+    print("a process for each chart: %.1f ms wall, %.1f ms processor" % (alone_wall * 1e3, alone_processor * 1e3))
     print("a process that does nothing, for each chart: %.1f ms wall, %.1f ms processor" % tuple(
         1e3 * took for took in each_alone(["true"], [""] * len(answers))))
     for solver in solvers:
-        wrong += report_other(solver, found, answers, SECONDS.get(name), wall, processor, alone)
-    if name not in SECONDS:
-        took = library(found)
-        print("glpk as a library, in one process: %.1f ms to solve, %.1f times as long as our search" % (
-            took * 1e3, took * 1e6 / sum(a[4] for a in answers)))
+        total = used = differ = 0
+        for (columns, rows), (_, weight, *_) in zip(problems, answers):
+            if columns:
+                optimum, took, busy = other(solver, columns, rows)
+                total, used, differ = total + took, used + busy, differ + (optimum != weight)
+        print("%s, a process for each chart: %.1f ms wall, %.1f ms processor; %d optima differ" % (solver, total * 1e3, used * 1e3, differ))
+        print("    times as long as one process of ours: %.1f wall, %.1f processor; as a process of ours for each chart: %.1f wall" % (
+            total / wall, used / processor, total / alone_wall))
+        wrong += differ
+    if "glpsol" not in solvers:
+        return wrong
+    took = library(problems)
+    print("glpk as a library, in one process: %.1f ms to solve, %.1f times as long as our search" % (took * 1e3, took * 1e6 / sum(a[4] for a in answers)))
     return wrong
 
 
-def report_stack():
-    """Prints the stack that the calls for C need."""
-    for name, files in ("hard6", [TABLES["hard6"]]), ("all of tests/tables", list(TABLES.values())):
+def main(words):
+    quick = words == ["--quick"]
+    if words and not quick:
+        sys.exit(__doc__)
+    prepare(quick)
+    solvers = [] if quick else list(SOLVERS)
+    tables = list(charts.tables(TABLES))
+    wrong = report("hard6", [charts.chart(width, cells) for width, cells, _ in tables], [weight for _, _, weight in tables], solvers, True)
+    dense = list(charts.tables(DENSE))
+    wrong += report("dense", [charts.chart(width, cells) for width, cells, _ in dense], [weight for _, _, weight in dense], [], False)
+    slow = list(charts.tables(ADVERSARIAL))
+    wrong += report("adversarial6", [charts.chart(width, cells) for width, cells, _ in slow], [weight for _, _, weight in slow], solvers[1:], False)
+    if not quick:
+        wrong += report("random", charts.random_charts(1956, 500), None, solvers, False)
+    for name, files in ("hard6", [TABLES]), ("all of tests/tables", [TABLES, ADVERSARIAL, DENSE]):
         stack = run([OUT + "/stack"] + files).split()
         print("\nstack for %s: %s bytes in rows_plan, %s in rows_keep_out, %s in rows_better, %s in rows_chart, %s in rows_essentials, "
               "%s in rows_essentials_by_neighbours, %s in the other calls for C, %s without a call" % (name, *stack))
-
-
-def beside(archive):
-    """Prints the time in the search over our archive and over another: both run in turn, nine times each, and for each chart the least time counts."""
-    build("solve-other", "solve", archive)
-    for name, found, _ in problems():
-        text = "\n".join(charts.show(*problem) for problem in found)
-        pairs = [[run([OUT + "/" + program], input=text) for program in ("solve", "solve-other")] for _ in range(9)]
-        ours, theirs = ([took / 1e3 for *_, took in answers_of(texts)] for texts in zip(*pairs))
-        print("%s: %.2f ms, %.2f ms at most; the other %.2f ms, %.2f ms at most; ours takes %.3f times as long as the other" % (
-            name, sum(ours), max(ours), sum(theirs), max(theirs), sum(ours) / sum(theirs)))
-
-
-def main(words):
-    if len(words) > 1 or words and words[0] != "--quick" and not os.path.isfile(words[0]):
-        sys.exit(__doc__)
-    solvers = [] if words else list(SOLVERS)
-    prepare(solvers)
-    if words and words != ["--quick"]:
-        beside(words[0])
-        return
-    wrong = 0
-    for name, found, listed in problems():
-        wrong += report(name, found, listed, [] if name == "dense" else solvers)
-    report_stack()
     sys.exit("%d answers are wrong" % wrong if wrong else 0)
 
 

@@ -33,7 +33,7 @@ static size_t read_tables(const char *file) {
     return count;
 }
 
-static inline double now(void) {
+static double now(void) {
     struct timespec time;
     clock_gettime(CLOCK_PROCESS_CPUTIME_ID, &time);
     return time.tv_sec * 1e9 + time.tv_nsec;

@@ -1,14 +1,13 @@
 #!/usr/bin/env python3
-"""What each part of the search saves: the nodes on the listed tables and on the adversarial ones with one part taken out.
+"""What each part of the search saves: the nodes on the listed tables with one part taken out.
 
     bench/parts.py               every variant
     bench/parts.py NAME...       the named ones
 
 A variant is a copy of the crates in target/bench/parts with a few lines edited and a program added
 that runs the search. `rt try` compiles it without a proof, so that no proof has to follow an edit;
-what the program wrote is read from the report that it is not what was expected. `rt try` gives a
-program ten seconds: where they are too few for all tables of a file, there are several programs.
-Run from the top of the repository.
+what the program wrote is read from the report that it is not what was expected. Run from the top of
+the repository.
 """
 import os
 import re
@@ -19,19 +18,15 @@ import sys
 sys.path.insert(0, "tests")
 import charts
 
-FILES = {"listed": "tests/tables/hard6.txt", "adversarial": "tests/tables/adversarial6.txt"}
+TABLES = "tests/tables/hard6.txt"
 OUT = "target/bench/parts"
 TIGHTEN = "bound/src/lib.rt"
 CERTIFICATE = "bound/src/certificate.rt"
-DUAL = "pricing/src/dual.rt"
-SIMPLEX = "pricing/src/simplex.rt"
+DUAL = "bound/src/dual.rt"
 SEARCH = "search/src/lib.rt"
 BRANCHING = "search/src/branching.rt"
 
-# How many programs there are where one is too slow.
-PROGRAMS = 8
-
-# A program that solves charts and writes the total of the nodes, the most for one chart, the sum of the weights and the processor time in microseconds.
+# A program that solves charts and writes the total of the nodes, the most for one chart, and the sum of the weights.
 SOLVING = """use libc::STDOUT_FILENO;
 
 fn solve(words: &[u64], weights: &[u32], columns: u64, sums: &mut [u64; 3]) {
@@ -43,72 +38,53 @@ fn solve(words: &[u64], weights: &[u32], columns: u64, sums: &mut [u64; 3]) {
     sums[2] += answer.weight;
 }
 
-fn write(number: u64) {
-    io::print_decimal(STDOUT_FILENO, number);
-    io::write_all(STDOUT_FILENO, b" ");
-}
-
 fn main() {
     let mut sums = [0u64; 3];
-%s    write(sums[0]);
-    write(sums[1]);
-    write(sums[2]);
-    write(libc::clock() as u64);
+%s    io::print_decimal(STDOUT_FILENO, sums[0]);
+    io::write_all(STDOUT_FILENO, b" ");
+    io::print_decimal(STDOUT_FILENO, sums[1]);
+    io::write_all(STDOUT_FILENO, b" ");
+    io::print_decimal(STDOUT_FILENO, sums[2]);
 }
 """
-SOLVING_DEPS = "parts: numbers covering matrix reduction pricing bound symmetry incumbent search io libc\n"
+SOLVING_DEPS = "parts: numbers covering matrix reduction bound search io libc\n"
 
-# A condition that holds in every bound.
-ALWAYS = "if size <= rows::LIMIT {"
-FEWEST_ROWS = "const FEWEST_ROWS: usize = "
-TRIES = "const TRIES: usize = "
-IMPROVE = "    improve(words, by_column, prices, slack, undecided);\n"
-
-NO_PROGRAMS = [(TIGHTEN, FEWEST_ROWS, FEWEST_ROWS + "1000 + ")]
-NO_FEE_ASCENTS = [(TIGHTEN, "if is_enough(words, plain, size, limit) {", ALWAYS)]
-ONE_ASCENT = [(TIGHTEN, "if is_enough(words, first, size, limit) {", ALWAYS)]
-NO_ROUNDING = [(CERTIFICATE, "matrix::larger(divided(total, SCALE), count * least)", "divided(total, SCALE)")]
-NO_NEED = [(CERTIFICATE, "need: matrix::larger(need, count),", "need: 0,")]
-NO_FIXING = [(CERTIFICATE, "if limit <= low {", "if 0 < limit {")]
-NO_LOCAL_SEARCH = [(SEARCH, FEWEST_ROWS, FEWEST_ROWS + "1000 + ")]
-NO_GREEDY_COVER = [(SEARCH, "incumbent::first(words, weights, &all, columns, NO_COVER)", "incumbent::Cover { weight: NO_COVER, picked: none }")]
-SECOND_SETTLED = """settle(
-            words,
-            weights,
-            other,
-            best.weight,
-            by_column,
-            slack,
-            cells,
-            recalled,
-        )"""
+SHARE = """    let rest = first.live;
+    let share = dual::from_shares(words, weights, &rest, undecided);
+    certificate::certified(words, weights, rest, undecided, limit, &share)
+"""
+ZERO = """    let ascent = dual::from_zero(words, weights, &live, undecided);
+    let first = certificate::certified(words, weights, live, undecided, limit, &ascent);
+    if limit <= first.low {
+        return first;
+    }
+    let rest = first.live;
+"""
+IMPROVE = "    improve(words, &by_column, &mut prices, &mut slack, undecided);\n"
+NEXT = """let next = branching::branching_row(words, weights, &rest, undecided);
+    if next == matrix::row_count(words) {
+        return incumbent;
+    }
+    let other = choose(words, weights, rest, undecided, incumbent.weight, next);"""
+NO_SHARE = [(TIGHTEN, SHARE, "    first\n")]
+NO_IMPROVEMENT = [(DUAL, IMPROVE, "")]
+NO_ROUNDING = [(CERTIFICATE, "rounded(words, weights, &live, total);", "total;")]
+NO_FIXING = [(CERTIFICATE, "fix_rows(words, weights, live, undecided, limit, prices, total);", "live;")]
 
 VARIANTS = {
     "all": [],
-    "no-programs": NO_PROGRAMS,
-    "no-fee-ascents": NO_FEE_ASCENTS,
-    "no-programs-no-fee-ascents": NO_PROGRAMS + NO_FEE_ASCENTS,
-    "no-fee-in-programs": [(SIMPLEX, "if need == 0 {", "if need < 1000 {")],
-    "one-program": [(TIGHTEN, TRIES, TRIES + "1 + 0 * ")],
-    "programs-at-every-node": [(TIGHTEN, FEWEST_ROWS, FEWEST_ROWS + "0 * ")],
-    "no-need": NO_NEED,
-    "no-rounding": NO_ROUNDING,
-    "no-rounding-no-need": NO_ROUNDING + NO_NEED,
-    "no-fixing": NO_FIXING,
-    "no-rounding-no-need-no-fixing": NO_ROUNDING + NO_NEED + NO_FIXING,
-    "zero-alone": ONE_ASCENT,
-    "shares-alone": ONE_ASCENT + [(TIGHTEN, "dual::from_zero(", "dual::from_shares(")],
-    "no-improvement": [(DUAL, IMPROVE, "")],
+    "no-share": NO_SHARE,
+    "no-zero": [(TIGHTEN, ZERO, "    let rest = live;\n")],
+    "no-improvement": NO_IMPROVEMENT,
     "two-improvements": [(DUAL, IMPROVE, IMPROVE + IMPROVE)],
-    "no-bound": [(SEARCH, "columns::is_empty(open) {\n        return Node {", "0 < limit {\n        return Node {")],
-    "no-orbits": [(SEARCH, "symmetry::orbit(words, weights, &live, open, by_column, r)", "rows::with_row(rows::none(), r)")],
-    "no-local-search": NO_LOCAL_SEARCH,
-    "no-greedy-cover": NO_GREEDY_COVER,
-    "no-local-search-no-greedy-cover": NO_LOCAL_SEARCH + NO_GREEDY_COVER,
-    "densest-column": [(BRANCHING, "if shares {", "if shares && columns::is_empty(undecided) {")],
+    "no-rounding": NO_ROUNDING,
+    "no-fixing": NO_FIXING,
+    "no-rounding-no-fixing": NO_ROUNDING + NO_FIXING,
+    "zero-alone": NO_SHARE + NO_IMPROVEMENT + NO_ROUNDING + NO_FIXING,
+    "no-bound": [(TIGHTEN, "    let ascent", "    if 0 < limit {\n        return certificate::Bounded { low: 0, live };\n    }\n    let ascent")],
+    "second-branch-not-reduced": [(SEARCH, "let other = reduce(words, weights, rest, undecided, incumbent.weight);", NEXT)],
+    "no-greedy": [(SEARCH, "all, columns, first.weight);", "all, columns, 4398046511104);")],
     "fewest-rows": [(BRANCHING, "denser(brings, counts[c], brought, counts[best])", "counts[c] < counts[best]")],
-    "not-reduced-after-a-bound": [(SEARCH, "rows::size(&before, end) == rows::size(&after, end)", "rows::size(&after, end) <= rows::size(&before, end)")],
-    "second-branch-not-settled": [(SEARCH, SECOND_SETTLED, "Node { state: other, closed: false, shares: false }")],
 }
 
 
@@ -131,8 +107,8 @@ def program(problems):
     return SOLVING % calls
 
 
-def prepare(edits):
-    """A copy of the crates with these edits."""
+def measure(edits, text):
+    """The nodes in total and at most, and the sum of the optima, of a variant; None where it does not end within the ten seconds of `rt try`."""
     shutil.rmtree(OUT, ignore_errors=True)
     shutil.copytree("crates", OUT + "/crates")
     shutil.copy("crates.txt", OUT)
@@ -140,47 +116,25 @@ def prepare(edits):
     for each in edits:
         edit(*each)
     os.makedirs(OUT + "/crates/parts/src")
+    open(OUT + "/crates/parts/src/main.rt", "w").write(text)
     open(OUT + "/crates/parts/stdout", "w").write("")
-
-
-def try_all(problems):
-    """What the program for these charts writes when compiled at -O3, or None where it does not end within the ten seconds of `rt try`."""
-    open(OUT + "/crates/parts/src/main.rt", "w").write(program(problems))
     report = subprocess.run(["rt", "try", "parts"], cwd=OUT, stdout=subprocess.PIPE, stderr=subprocess.STDOUT, text=True).stdout
-    found = re.search(r'at -O3 ended.*\n.*found "(\d+) (\d+) (\d+) (\d+) "', report)
+    found = re.findall(r'found "(\d+) (\d+) (\d+)"', report)
     if not found and "-O3 failed, with status 124" not in report:
         sys.exit(report)
-    return [int(number) for number in found.groups()] if found else None
-
-
-def measure(problems):
-    """The nodes in all and at most, the sum of the optima and the time of the variant that is prepared; None where it is too slow for several programs too."""
-    found = try_all(problems)
-    if found:
-        return found
-    sums = [0, 0, 0, 0]
-    for first in range(PROGRAMS):
-        found = try_all(problems[first::PROGRAMS])
-        if not found:
-            return None
-        sums = [max(a, b) if place == 1 else a + b for place, (a, b) in enumerate(zip(sums, found))]
-    return sums
+    return [int(number) for number in found[-1]] if found else None
 
 
 def main(names):
-    tables = {name: list(charts.tables(path)) for name, path in FILES.items()}
-    problems = {name: [charts.chart(width, cells) for width, cells, _ in listed] for name, listed in tables.items()}
+    tables = list(charts.tables(TABLES))
+    text = program([charts.chart(width, cells) for width, cells, _ in tables])
+    listed = sum(weight for _, _, weight in tables)
     wrong = 0
-    for variant in names or VARIANTS:
-        prepare(VARIANTS[variant])
-        print("%-32s" % variant, end="", flush=True)
-        for name, listed in tables.items():
-            found = measure(problems[name])
-            shown = "%7d nodes, %6d at most, %8.1f ms" % (found[0], found[1], found[3] / 1e3) if found else "too slow".ljust(39)
-            print("  %s: %s" % (name, shown), end="", flush=True)
-            wrong += found is not None and found[2] != sum(weight for _, _, weight in listed)
-        print(flush=True)
-    sys.exit("%d sums of optima are wrong" % wrong if wrong else 0)
+    for name in names or VARIANTS:
+        found = measure(VARIANTS[name], text)
+        print("%-22s %s" % (name, "%8d nodes in all, %7d at most" % tuple(found[:2]) if found else "did not end in time"), flush=True)
+        wrong += found is not None and found[2] != listed
+    sys.exit("%d variants have another optimum" % wrong if wrong else 0)
 
 
 main(sys.argv[1:])

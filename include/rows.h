@@ -30,11 +30,10 @@
  * address will do. A call touches no other memory of the caller, keeps nothing and allocates nothing,
  * so threads may call at the same time, each with its own arrays.
  *
- * A call needs stack: allow rows_plan, rows_keep_out and rows_better 256 KB. The most that was measured on
- * x86-64, from the caller's frame down, on the tables of tests/tables is 85 KB for these three, 33 KB for
- * rows_chart, 9 KB for rows_essentials, 264 bytes for rows_essentials_by_neighbours and 3 KB for the other
- * calls. The three were also run on them in a thread where their caller has 96 KB. A level of their search
- * takes some 2.3 KB, and it has a level for each row that is taken on trial. No bound is proved.
+ * A call needs stack: allow rows_plan, rows_keep_out and rows_better 1 MB. The most that was measured on
+ * x86-64, from the caller's frame down, is 273 KB for these three, 33 KB for rows_chart, 9 KB for
+ * rows_essentials, 264 bytes for rows_essentials_by_neighbours and 3 KB for the other calls; an earlier
+ * measurement had 287 KB for rows_plan. No bound is proved.
  *
  * Answers
  *

@@ -3,7 +3,7 @@
  *   - for random tables of widths 1 to 6 with at most 16 wanted codes, by the sets of wanted codes;
  *   - for the tables of the files given, whose rows and bits are known, each within the given number of seconds of processor time.
  * rows_keep_out must find the same for the table with wanted and barred exchanged, and rows_better must write the better of what the two write for one table.
- * Each list is tried on all codes, and checked by rows_check. All this is done with the stack that rows.h asks for, 256 KB, and memory behind it that nobody may
+ * Each list is tried on all codes, and checked by rows_check. All this is done with the stack that rows.h asks for, 1 MB, and memory behind it that nobody may
  * touch. Prints each failure, and at the end 'N passed, 0 failed'.
  *
  *     compare FILE COUNT SECONDS ..       files of tables, how many tables each has, and the time for one call */
@@ -286,7 +286,7 @@ int main(int argc, char **argv) {
         return 2;
     }
     arguments = argv + 1;
-    if (pthread_attr_init(&attributes) || pthread_attr_setstacksize(&attributes, 256 << 10) || pthread_attr_setguardsize(&attributes, 1 << 20) ||
+    if (pthread_attr_init(&attributes) || pthread_attr_setstacksize(&attributes, 1 << 20) || pthread_attr_setguardsize(&attributes, 1 << 20) ||
         pthread_create(&thread, &attributes, compare, NULL) || pthread_join(thread, NULL)) {
         fprintf(stderr, "no thread\n");
         return 2;

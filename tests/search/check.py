@@ -1,7 +1,6 @@
 #!/usr/bin/env python3
-"""Runs the search on covering problems and compares the weights of its covers: the charts of the tables in tests/tables/hard6.txt and adversarial6.txt with
-the optima listed there, and 200 small problems with the least weight that trying every selection finds. On the charts of the tables it also limits the work:
-the nodes for one chart, and the nodes for all charts of a file.
+"""Runs the search on covering problems and compares the weights of its covers: the charts of the tables in tests/tables/hard6.txt with the optimum listed
+there, and 200 small problems with the least weight that trying every selection finds.
 
     check.py SOLVE          SOLVE is bench/solve.c, linked with the search for C
 
@@ -16,20 +15,7 @@ sys.path.insert(0, str(TESTS))
 import charts
 
 SMALL = 200
-
-# For each file the number of its tables, the most nodes for one of them and the most for all.
-FILES = {"hard6.txt": (108, 100, 1000), "adversarial6.txt": (189, 400, 4000)}
-
-passed = failed = 0
-
-
-def expect(holds, failure):
-    global passed, failed
-    if holds:
-        passed += 1
-    else:
-        failed += 1
-        print(failure)
+TABLES = 108
 
 
 def least(columns, rows):
@@ -68,36 +54,22 @@ def small(generator):
             yield columns, rows
 
 
-def compare(solve, problems):
-    """Compares the weight that the search finds for each problem with its optimum, and returns the nodes that it took for each."""
+def main(solve):
+    problems = [(charts.chart(width, cells), weight) for width, cells, weight in charts.tables(TESTS / "tables" / "hard6.txt")]
+    for problem, _ in zip(small(random.Random(1956)), range(SMALL)):
+        problems.append((problem, least(*problem)))
     text = "\n".join(charts.show(*problem) for problem, _ in problems)
     lines = subprocess.run([solve], input=text, stdout=subprocess.PIPE, check=True, text=True).stdout.splitlines()
-    if len(lines) != len(problems):
-        sys.exit("%d problems and %d answers" % (len(problems), len(lines)))
-    answers = [[int(word) for word in line.split()[2:4]] for line in lines]
-    for (problem, optimum), (weight, _) in zip(problems, answers):
-        expect(weight == optimum, "weight %d, expected %d, for:\n%s" % (weight, optimum, charts.show(*problem)))
-    return [nodes for _, nodes in answers]
-
-
-def compare_tables(solve, name):
-    """The charts of the tables in a file, within the nodes for one of them and for all."""
-    count, most, most_in_all = FILES[name]
-    tables = list(charts.tables(TESTS / "tables" / name))
-    expect(len(tables) == count, "%s: %d tables, expected %d" % (name, len(tables), count))
-    found = compare(solve, [(charts.chart(width, cells), weight) for width, cells, weight in tables])
-    for (width, cells, _), nodes in zip(tables, found):
-        expect(nodes <= most, "%s: %d nodes, allowed %d, for %d %s" % (name, nodes, most, width, cells))
-    expect(sum(found) <= most_in_all, "%s: %d nodes in all, allowed %d" % (name, sum(found), most_in_all))
-    print("%s: %d nodes in all, %d at most" % (name, sum(found), max(found)))
-
-
-def main(solve):
-    for name in FILES:
-        compare_tables(solve, name)
-    compare(solve, [(problem, least(*problem)) for problem, _ in zip(small(random.Random(1956)), range(SMALL))])
-    print("%d passed, %d failed" % (passed, failed))
-    return failed != 0
+    if len(problems) != TABLES + SMALL or len(lines) != len(problems):
+        sys.exit("%d problems, expected %d, and %d answers" % (len(problems), TABLES + SMALL, len(lines)))
+    wrong = 0
+    for (problem, optimum), line in zip(problems, lines):
+        weight = int(line.split()[2])
+        if weight != optimum:
+            wrong += 1
+            print("weight %d, expected %d, for:\n%s" % (weight, optimum, charts.show(*problem)))
+    print("%d passed, %d failed" % (len(problems) - wrong, wrong))
+    return wrong != 0
 
 
 if __name__ == "__main__":

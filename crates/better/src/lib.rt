@@ -3,6 +3,8 @@
 //     let mut values = [0u8; 2];
 //     let mut cares = [0u8; 2];
 //     better::better(2, &[0, 1, 1, 1], &mut values, &mut cares)   // the keep-out list, 1 row, 2 bits: 00; the ordinary list has 2 rows
+#![tactic(auto)]
+
 ghost use Rattle.std.specs.Prelude.{◌≡◌, take};
 ghost use Rattle.cube.specs.Calls.{written};
 ghost use Rattle.better.specs.Better.{is_better, Builds};

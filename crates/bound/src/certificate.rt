@@ -1,21 +1,79 @@
-// The certificate: what any prices of the columns and a price of a row, its fee, show of the covers below a limit. Each undecided column is covered, and at least `need` rows
-// are taken, so the rows of a cover pay at least what the undecided columns and the needed rows are worth together. They weigh at least that, less what live
-// rows pay above their weights. This is added up here, whoever found the prices.
-ghost use Rattle.std.specs.Prelude.{◌≡◌, true, not, ◌&&◌, ℕ, ◌+◌, ◌-◌, ◌/◌, ◌≤◌, ◌<◌, eqb};
-ghost use Rattle.matrix.specs.Sets.{has, row_limit, member, Member};
-ghost use Rattle.matrix.specs.Matrix.{row_count, Sizes, weight_of, weight_limit};
-ghost use Rattle.bound.specs.Bound.{Asked, Bounds};
-ghost use Rattle.bound.specs.Steps.{scaled_weight, fee_limit, total_limit, Valued, Pays, Overpays, Ranges, rows_of, bound_of, Certificate, Heavy, Fixed};
+// The certificate: prices for the columns such that no live row's undecided columns are worth more than the row weighs. Then every cover weighs at least
+// what all undecided columns are worth. This is checked here, whoever found the prices.
+ghost use Rattle.std.specs.Prelude.{◌≡◌, ◌<◌, ◌≤◌, true};
+ghost use Rattle.matrix.specs.Sets.{has};
+ghost use Rattle.matrix.specs.Matrix.{row_count, Sizes, weight_limit};
+ghost use Rattle.bound.specs.Bound.{Limited, Kept, Bounds};
+ghost use Rattle.bound.specs.Steps.{worth_limit, Valued, row_columns, Pays, Feasible, Ranges, Rounded, Certificate};
 
 use matrix::{columns, rows};
-use pricing::{Prices, SCALE, left_of, worth};
 
-// A lower bound of the covers below the limit, the number of rows that they have at least, and the live rows that they can have.
+// A price for each column.
+pub type Prices = [u32; columns::LIMIT];
+
+// A lower bound, and the live rows that a cover below the limit can have.
 #[derive(Drop)]
 pub struct Bounded {
     pub low: u64,
-    pub need: u64,
     pub live: rows::Set,
+}
+
+// A price as a number wide enough for sums of prices.
+fn wide(x: u32) -> u64
+    ensures { (result ≡ x) × (result < weight_limit) }
+{
+    x as u64
+}
+
+// What the columns of a set are worth together.
+pub fn worth(prices: &Prices, set: columns::Set) -> u64
+    ensures { Valued prices.now (has set) result }
+{
+    let mut total: u64 = 0;
+    let mut c = columns::next(set, 0);
+    while c < columns::LIMIT {
+        total += wide(prices[c]);
+        c = columns::next(set, c + 1);
+    }
+    total
+}
+
+// What the undecided columns of the row i are worth together.
+pub fn row_worth(words: &[u64], undecided: columns::Set, prices: &Prices, i: usize) -> u64
+    requires { i < row_count words.now }
+    ensures { Valued prices.now (row_columns words.now undecided i) result }
+{
+    worth(prices, columns::both(matrix::covered(words, i), undecided))
+}
+
+// Whether the undecided columns of the row i are worth no more than it weighs.
+fn pays(words: &[u64], weights: &[u32], undecided: columns::Set, prices: &Prices, i: usize) -> bool
+    requires { Sizes words.now weights.now × (i < row_count words.now) }
+    ensures { result ≡ true → Pays words.now weights.now undecided prices.now i }
+{
+    row_worth(words, undecided, prices, i) <= matrix::weight(weights, i)
+}
+
+// Whether each live row pays.
+fn feasible(
+    words: &[u64],
+    weights: &[u32],
+    live: &rows::Set,
+    undecided: columns::Set,
+    prices: &Prices,
+) -> bool
+    requires { Sizes words.now weights.now }
+    ensures { result ≡ true → Feasible words.now weights.now live.now undecided prices.now }
+{
+    let end = matrix::row_count(words);
+    let mut i = rows::next(live, 0, end);
+    while i < end {
+        if !pays(words, weights, undecided, prices, i) {
+            return false;
+        }
+        i = rows::next(live, i + 1, end);
+    }
+    true
 }
 
 // The least and the largest weight of some rows.
@@ -25,58 +83,8 @@ pub struct Range {
     pub most: u64,
 }
 
-// What prices show: what the undecided columns and the needed rows are worth, what live rows pay above their weights, the rows needed, and the range of the
-// live rows' weights.
-#[derive(Drop)]
-pub struct Shown {
-    pub asked: u64,
-    pub over: u64,
-    pub need: u64,
-    pub least: u64,
-    pub most: u64,
-}
-
-// What the row i pays: the fee of a row, and what its undecided columns are worth together.
-fn paid(words: &[u64], undecided: columns::Set, prices: &Prices, fee: u64, i: usize) -> u64
-    requires { (i < row_count words.now) × (fee ≤ fee_limit) }
-    ensures { Pays words.now undecided prices.now fee i result }
-{
-    fee + worth(prices, columns::both(matrix::covered(words, i), undecided))
-}
-
-// The weight of the row i in parts.
-fn scaled_weight(weights: &[u32], i: usize) -> u64
-    requires { i < row_count weights.now }
-    ensures { (result ≡ scaled_weight weights.now i) × (result ≤ fee_limit) }
-{
-    SCALE * matrix::weight(weights, i)
-}
-
-// What the live rows pay above their weights.
-fn overpaid(
-    words: &[u64],
-    weights: &[u32],
-    live: &rows::Set,
-    undecided: columns::Set,
-    prices: &Prices,
-    fee: u64,
-) -> u64
-    requires { Sizes words.now weights.now × (fee ≤ fee_limit) }
-    ensures { Overpays words.now weights.now live.now undecided prices.now fee result }
-{
-    let mut over: u64 = 0;
-    let end = matrix::row_count(words);
-    let mut i = rows::next(live, 0, end);
-    while i < end {
-        let pays = paid(words, undecided, prices, fee, i);
-        over += left_of(pays, scaled_weight(weights, i));
-        i = rows::next(live, i + 1, end);
-    }
-    over
-}
-
 // The range of the live rows' weights.
-pub fn weight_range(words: &[u64], weights: &[u32], live: &rows::Set) -> Range
+fn weight_range(words: &[u64], weights: &[u32], live: &rows::Set) -> Range
     requires { Sizes words.now weights.now }
     ensures { Ranges weights.now live.now (row_count words.now) result.least result.most }
 {
@@ -93,150 +101,105 @@ pub fn weight_range(words: &[u64], weights: &[u32], live: &rows::Set) -> Range
     Range { least, most }
 }
 
-// A number of units of which each is at most d, for a total: a / d, rounded up.
-fn divided(a: u64, d: u64) -> u64
-    requires { (0 < d) × (d < weight_limit) × (a ≤ total_limit + total_limit) }
-    ensures { result ≡ (a + (d - 1)) / d }
+// A bound rounded up in rows: at least this many rows are needed, each of at least the least weight.
+fn rounded(words: &[u64], weights: &[u32], live: &rows::Set, low: u64) -> u64
+    requires { Sizes words.now weights.now × (low ≤ worth_limit) }
+    ensures { Rounded words.now weights.now live.now low result }
 {
-    (a + (d - 1)) / d
+    let weight = weight_range(words, weights, live);
+    let least = weight.least;
+    let most = weight.most;
+    if most < least {
+        return low;
+    }
+    let raised = least * ((low + (most - 1)) / most);
+    if low < raised {
+        return raised;
+    }
+    low
 }
 
-// How many rows a total asks for, each of at most the weight `most`.
-fn rows_of(most: u64, total: u64) -> u64
-    requires { (0 < most) × (most < weight_limit) × (total ≤ total_limit + total_limit) }
-    ensures { (result ≡ rows_of most total) × (result ≤ row_limit) }
-{
-    matrix::smaller(rows::LIMIT as u64, divided(divided(total, SCALE), most))
-}
-
-// A total rounded up: to whole weights, and to whole rows of at least the least weight.
-fn bound_of(least: u64, most: u64, need: u64, total: u64) -> u64
-    requires { (0 < most) × (most < weight_limit) × (least < weight_limit) × (need ≤ row_limit) × (total ≤ total_limit + total_limit) }
-    ensures { result ≡ bound_of least most need total }
-{
-    let count = matrix::larger(need, rows_of(most, total));
-    matrix::larger(divided(total, SCALE), count * least)
-}
-
-// Whether every cover with the live row i weighs as much as the limit.
-fn heavy(
+// The live rows without the row i, if every cover with it weighs as much as the limit.
+fn fix_row(
     words: &[u64],
     weights: &[u32],
-    live: &rows::Set,
+    live: rows::Set,
     undecided: columns::Set,
     limit: u64,
     prices: &Prices,
-    fee: u64,
-    shown: Shown,
+    total: u64,
     i: usize,
-) -> bool
-    requires { Certificate words.now weights.now live.now undecided limit prices.now fee shown × (i < row_count words.now) × Member live.now i }
-    ensures { result ≡ true → Heavy words.now weights.now live.now undecided limit i }
+) -> rows::Set
+    requires { Certificate words.now weights.now live undecided limit prices.now total × (i < row_count words.now) }
+    ensures { Kept words.now weights.now live undecided limit result }
 {
-    let pays = paid(words, undecided, prices, fee, i);
-    let slack = left_of(scaled_weight(weights, i), pays);
-    let total = left_of(shown.asked + slack, shown.over);
-    limit <= bound_of(shown.least, shown.most, shown.need, total)
-}
-
-// The rows of a set, without the row i if it is out.
-fn kept(set: rows::Set, i: usize, out: bool) -> rows::Set
-    requires { i < row_limit }
-    ensures { (j : ℕ) → member result j ≡ (member set j && not (out && eqb j i)) }
-{
-    if out {
-        return rows::without_row(set, i);
+    let paid = row_worth(words, undecided, prices, i);
+    if limit + paid <= matrix::weight(weights, i) + total {
+        return rows::without_row(live, i);
     }
-    set
+    live
 }
 
 // The live rows without those that are in no cover below the limit.
-fn fixed(
+fn fix_rows(
     words: &[u64],
     weights: &[u32],
-    live: &rows::Set,
+    live: rows::Set,
     undecided: columns::Set,
     limit: u64,
     prices: &Prices,
-    fee: u64,
-    shown: Shown,
+    total: u64,
 ) -> rows::Set
-    requires { Certificate words.now weights.now live.now undecided limit prices.now fee shown }
-    ensures { Fixed words.now weights.now live.now undecided limit (row_count words.now) result }
+    requires { Certificate words.now weights.now live undecided limit prices.now total }
+    ensures { Kept words.now weights.now live undecided limit result }
 {
-    let mut rest = *live;
+    let mut kept = live;
     let end = matrix::row_count(words);
-    let mut i = rows::next(live, 0, end);
+    let mut i = rows::next(&kept, 0, end);
     while i < end {
-        let out = heavy(
-            words, weights, live, undecided, limit, prices, fee, shown, i,
-        );
-        let next = kept(rest, i, out);
-        rest = next;
-        i = rows::next(live, i + 1, end);
+        let rest = fix_row(words, weights, kept, undecided, limit, prices, total, i);
+        kept = rest;
+        i = rows::next(&kept, i + 1, end);
     }
-    rest
+    kept
 }
 
-// What prices of the columns and of a row show.
-fn add_up(
+// What a certificate shows: its total rounded up in rows, and the live rows without those that are in no cover below the limit.
+fn shown(
     words: &[u64],
     weights: &[u32],
-    live: &rows::Set,
+    live: rows::Set,
     undecided: columns::Set,
-    need: u64,
+    limit: u64,
     prices: &Prices,
-    fee: u64,
-) -> Shown
-    requires { Sizes words.now weights.now × (need ≤ row_limit) × (fee ≤ fee_limit) }
-    ensures { (limit : ℕ) → Asked words.now weights.now live.now undecided limit need
-        → Certificate words.now weights.now live.now undecided limit prices.now fee result }
+    total: u64,
+) -> Bounded
+    requires { Certificate words.now weights.now live undecided limit prices.now total }
+    ensures { Bounds words.now weights.now live undecided limit result.low result.live }
 {
-    let weight = weight_range(words, weights, live);
-    let asked = worth(prices, undecided) + fee * need;
-    let over = overpaid(words, weights, live, undecided, prices, fee);
-    let count = rows_of(weight.most, left_of(asked, over));
-    Shown {
-        asked,
-        over,
-        need: matrix::larger(need, count),
-        least: weight.least,
-        most: weight.most,
+    let low = rounded(words, weights, &live, total);
+    if limit <= low {
+        return Bounded { low, live };
     }
+    let kept = fix_rows(words, weights, live, undecided, limit, prices, total);
+    Bounded { low, live: kept }
 }
 
-// A lower bound, the rows needed and the rows that are left, by prices of the columns and of a row.
+// What prices for the columns show: nothing, unless they are a certificate.
 pub fn certified(
     words: &[u64],
     weights: &[u32],
     live: rows::Set,
     undecided: columns::Set,
     limit: u64,
-    need: u64,
     prices: &Prices,
-    fee: u64,
 ) -> Bounded
-    requires { Asked words.now weights.now live undecided limit need × (fee ≤ fee_limit) }
-    ensures { Bounds words.now weights.now live undecided limit result }
+    requires { Limited words.now weights.now limit }
+    ensures { Bounds words.now weights.now live undecided limit result.low result.live }
 {
-    let shown = add_up(words, weights, &live, undecided, need, prices, fee);
-    let low = bound_of(
-        shown.least,
-        shown.most,
-        shown.need,
-        left_of(shown.asked, shown.over),
-    );
-    if limit <= low {
-        return Bounded {
-            low,
-            need: shown.need,
-            live,
-        };
+    if !feasible(words, weights, &live, undecided, prices) {
+        return Bounded { low: 0, live };
     }
-    let rest = fixed(words, weights, &live, undecided, limit, prices, fee, shown);
-    Bounded {
-        low,
-        need: shown.need,
-        live: rest,
-    }
+    let total = worth(prices, undecided);
+    shown(words, weights, live, undecided, limit, prices, total)
 }

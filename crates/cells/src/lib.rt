@@ -2,6 +2,8 @@
 //
 //     let mut codes = [0u8; 16];
 //     cells::cells(4, 53, &mut codes)     // digits 1 2 2 2: the codes 8 to 15, count 8
+#![tactic(auto)]
+
 ghost use Rattle.std.specs.Prelude.{◌<◌, ◌≤◌, ◌^◌, length};
 ghost use Rattle.numbers.specs.Lent.{Puts};
 ghost use Rattle.cube.specs.Words.{codes_of};

@@ -3,6 +3,8 @@
 //
 //     let mut rows = [ChartRow { cube: 0, word: 0, literals: 0 }; 9];
 //     chart::chart(2, &[1, 0, 0, 2], &mut rows)   // count 1: cube 0 (00) with the word 1; 11 matches no wanted code
+#![tactic(auto)]
+
 ghost use Rattle.std.specs.Prelude.{◌≡◌, ◌++◌, ◌<◌, ◌^◌, length, drop};
 ghost use Rattle.cube.specs.Calls.{widest, answered, count_answer};
 ghost use Rattle.chart.specs.Rows.{Charted};

@@ -1,6 +1,8 @@
 // The chart: a row for each prime that serves, a column for each wanted code.
 //
 //     chart_arrays::cube_columns(2, &[1, 0, 2, 1], 2)     // cube 02 matches 0 and 1, of which 0 is wanted: the word 1
+#![tactic(auto)]
+
 ghost use Rattle.std.specs.Prelude.{◌≡◌, ℕ, ◌+◌, ◌*◌, ◌<◌, ◌≤◌, ◌^◌, length, get_or};
 ghost use Rattle.numbers.specs.Below.{flag, word_of};
 ghost use Rattle.cube.specs.Calls.{widest};

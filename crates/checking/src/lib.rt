@@ -4,6 +4,8 @@
 //     checking::check(2, &[0, 0, 1, 1], &[2], &[2])   // Right: the row 1- matches 2 and 3
 //     checking::check(2, &[0, 0, 1, 1], &[0], &[0])   // Stray(0): the row -- matches 0, which is barred
 //     checking::check(2, &[0, 0, 1, 1], &[], &[])     // Missed(2)
+#![tactic(auto)]
+
 ghost use Rattle.std.specs.Prelude.{◌≡◌, cond, ◌^◌, ◌<◌, ◌≤◌, length};
 ghost use Rattle.cube.specs.Words.{on_set};
 ghost use Rattle.cube.specs.Calls.{widest, gives};

@@ -1,13 +1,16 @@
--- Lower bounds of covers: they hold of fewer rows, of more columns and of smaller numbers, and a column without a row has any. Branching, the covers with a row
--- and dominance each take a row out of a selection: what is left is a selection of the other rows, lighter by what the row weighs. Assumes nothing.
-use mathlib.Core.Path.{◌≡◌, ap, subst}
+-- Lower bounds of covers. A lower bound is a valid inequality: `AtLeast cov a A U b` says that the coefficients a of the rows of any cover add up to b or
+-- more. Inequalities add up, are divided and rounded up, and are carried to a larger weight, so a dual solution is a certificate: the numbers of the
+-- columns, or of any other valid inequalities, of which no row gets more than its weight. Branching and dominance work by taking a row out of a
+-- selection. Assumes nothing.
+use mathlib.Core.Path.{◌≡◌, refl, ap, subst}
 use mathlib.Core.List.{List, [], ◌∷◌, ◌++◌}
 use mathlib.Core.Logic.{◌⊎◌, inl, inr, ⊎_elim}
-use Prim.Native.Nat.{ℕ, ◌+◌, ◌≤◌}
+use Prim.Native.Nat.{ℕ, zero, suc, ◌+◌, ◌-◌, ◌*◌, ◌/◌, ◌≤◌, ◌<◌}
+use native.Mathlib.Nat.{mul-le-mul_left, div-lt_iff_lt-mul}
 use native.Mathlib.Decide.{ℕ_discrete}
 use native.Mathlib.Omega.{arith}
+use Rattle.covering.specs.Sum.{sum}
 use Rattle.covering.specs.Weighted.{Within, Hits, Covers, weight, AtLeast}
-use Rattle.covering.specs.Inequalities.{Has, AtLeastWith}
 
 -- ---- selections
 
@@ -19,15 +22,21 @@ pub within-append : (A : ℕ → Type 0) (L M : List ℕ) → Within A L → Wit
 within-append A [] M l m = m
 within-append A (x ∷ L) M l m = (l.0, within-append A L M l.1 m)
 
--- a row of a selection is one of what it is within
-pub within_has : (A : ℕ → Type 0) (r : ℕ) (L : List ℕ) → Within A L → Has r L → A r
-within_has A r [] l h = absurd h
-within_has A r (x ∷ L) l (inl e) = subst A e l.0
-within_has A r (x ∷ L) l (inr h) = within_has A r L l.1 h
-
 pub weight-append : (w : ℕ → ℕ) (L M : List ℕ) → weight w (L ++ M) ≡ weight w L + weight w M
 weight-append w [] M = omega arith
 weight-append w (x ∷ L) M = omega (arith, weight-append w L M)
+
+weight_le : {A : ℕ → Type 0} {a b : ℕ → ℕ} → ((i : ℕ) → A i → a i ≤ b i) → (L : List ℕ) → Within A L → weight a L ≤ weight b L
+weight_le f [] l = omega arith
+weight_le f (x ∷ L) l = omega (arith, f x l.0, weight_le f L l.1)
+
+weight-add : (a b : ℕ → ℕ) (L : List ℕ) → weight (λ i. a i + b i) L ≡ weight a L + weight b L
+weight-add a b [] = refl
+weight-add a b (x ∷ L) = omega (arith, weight-add a b L)
+
+weight_times : (d : ℕ) (a : ℕ → ℕ) (L : List ℕ) → weight (λ i. d * a i) L ≡ d * weight a L
+weight_times d a [] = omega arith
+weight_times d a (x ∷ L) = omega (arith, weight_times d a L)
 
 module _ (cov : ℕ → ℕ → Type 0) where
   pub hits_append : (L M : List ℕ) (c : ℕ) → Hits cov L c ⊎ Hits cov M c → Hits cov (L ++ M) c
@@ -42,7 +51,13 @@ module _ (cov : ℕ → ℕ → Type 0) where
   hitter (x ∷ L) c l (inl h) = (x, l.0, h)
   hitter (x ∷ L) c l (inr h) = hitter L c l.1 h
 
-  -- ---- lower bounds
+  -- some row of a cover weighs y or more, where each row for a column does
+  hit_weighs : {A : ℕ → Type 0} {a : ℕ → ℕ} (c y : ℕ) → ((i : ℕ) → A i → cov i c → y ≤ a i) → (L : List ℕ) → Within A L → Hits cov L c → y ≤ weight a L
+  hit_weighs c y f [] l h = absurd h
+  hit_weighs c y f (x ∷ L) l (inl h) = omega (arith, f x l.0 h)
+  hit_weighs c y f (x ∷ L) l (inr h) = omega (arith, hit_weighs c y f L l.1 h)
+
+  -- ---- valid inequalities
 
   -- fewer rows, more columns, a smaller number
   pub narrower : {w : ℕ → ℕ} {A A' U U' : ℕ → Type 0} {k k' : ℕ} → ((i : ℕ) → A' i → A i) → ((c : ℕ) → U c → U' c) → k' ≤ k
@@ -52,12 +67,74 @@ module _ (cov : ℕ → ℕ → Type 0) where
   pub smaller : {w : ℕ → ℕ} {A U : ℕ → Type 0} {k k' : ℕ} → k' ≤ k → AtLeast cov w A U k → AtLeast cov w A U k'
   smaller h b = narrower (λ i x. x) (λ c x. x) h b
 
+  -- a weight that is larger at every row of A
+  pub heavier : {a w : ℕ → ℕ} {A U : ℕ → Type 0} {k : ℕ} → ((i : ℕ) → A i → a i ≤ w i) → AtLeast cov a A U k → AtLeast cov w A U k
+  heavier f b = record { bound = λ L l s. omega (arith, b.bound L l s, weight_le f L l) }
+
   pub nothing : {w : ℕ → ℕ} {A U : ℕ → Type 0} → AtLeast cov w A U 0
   nothing = record { bound = λ L l s. omega arith }
 
   -- a column that no row of A covers
   pub uncoverable : {w : ℕ → ℕ} {A U : ℕ → Type 0} (c k : ℕ) → U c → ((i : ℕ) → A i → cov i c → ⊥) → AtLeast cov w A U k
   uncoverable c k u f = record { bound = λ L l s. let t = hitter L c l (s c u) in absurd (f t.0 t.1 t.2) }
+
+  -- rows that cover nothing can be ignored
+  module _ (w : ℕ → ℕ) {A A' : ℕ → Type 0} (either : (i : ℕ) → A i → A' i ⊎ ((c : ℕ) → cov i c → ⊥)) where
+    Trimmed : List ℕ → Type 0
+    Trimmed L = (M : List ℕ) × Within A' M × (weight w M ≤ weight w L) × ((c : ℕ) → Hits cov L c → Hits cov M c)
+
+    trim : (L : List ℕ) → Within A L → Trimmed L
+    unfolding Trimmed
+    trim [] l = ([], tt, omega arith, λ c h. h)
+    trim (x ∷ L) l = go (either x l.0) (trim L l.1)
+      where
+        go : A' x ⊎ ((c : ℕ) → cov x c → ⊥) → Trimmed L → Trimmed (x ∷ L)
+        go (inl a) m = (x ∷ m.0, (a, m.1), omega (arith, m.2), λ c h. ⊎_elim inl (λ y. inr (m.3 c y)) h)
+        go (inr f) m = (m.0, m.1, omega (arith, m.2), λ c h. ⊎_elim (λ y. absurd (f c y)) (m.3 c) h)
+
+    pub useful : {U : ℕ → Type 0} {k : ℕ} → AtLeast cov w A' U k → AtLeast cov w A U k
+    unfolding Trimmed
+    useful b = record { bound = λ L l s. let m = trim L l in omega (arith, m.2, b.bound m.0 m.1 (λ c u. m.3 c (s c u))) }
+
+  -- the inequality of a column, times y
+  pub column : {a : ℕ → ℕ} {A U : ℕ → Type 0} (c y : ℕ) → U c → ((i : ℕ) → A i → cov i c → y ≤ a i) → AtLeast cov a A U y
+  column c y u f = record { bound = λ L l s. hit_weighs c y f L l (s c u) }
+
+  pub added : {a b : ℕ → ℕ} {A U : ℕ → Type 0} {k l : ℕ} → AtLeast cov a A U k → AtLeast cov b A U l → AtLeast cov (λ i. a i + b i) A U (k + l)
+  added {a} {b} f g = record { bound = λ L l s. omega (arith, weight-add a b L, f.bound L l s, g.bound L l s) }
+
+  -- the sum of m inequalities
+  pub together : {A U : ℕ → Type 0} (m : ℕ) (a : ℕ → ℕ → ℕ) (b : ℕ → ℕ) → ((j : ℕ) → AtLeast cov (a j) A U (b j))
+      → AtLeast cov (λ i. sum m (λ j. a j i)) A U (sum m b)
+  unfolding sum
+  together zero a b f = nothing
+  together (suc m) a b f = added (together m a b f) (f m)
+
+  -- A dual solution: m valid inequalities of which no row of A gets more than its weight.
+  pub dual : {w : ℕ → ℕ} {A U : ℕ → Type 0} (m : ℕ) (a : ℕ → ℕ → ℕ) (b : ℕ → ℕ) → ((j : ℕ) → AtLeast cov (a j) A U (b j))
+      → ((i : ℕ) → A i → sum m (λ j. a j i) ≤ w i) → AtLeast cov w A U (sum m b)
+  dual m a b f h = heavier h (together m a b f)
+
+  -- an inequality divided by d and rounded up
+  pub divided : {w a : ℕ → ℕ} {A U : ℕ → Type 0} {k : ℕ} (d : ℕ) → 0 < d → ((i : ℕ) → A i → w i ≤ d * a i) → AtLeast cov w A U k
+      → AtLeast cov a A U ((k + (d - 1)) / d)
+  divided {w} {a} {k = k} d pos f b = record {
+    bound = λ L l s. round (weight a L)
+        (omega (arith, b.bound L l s, weight_le f L l, weight_times d a L));
+  }
+    where
+      round : (m : ℕ) → k ≤ d * m → (k + (d - 1)) / d ≤ m
+      round m h = let e : k + (d - 1) < suc m * d = omega arith in
+          let g : (k + (d - 1)) / d < suc m = (div-lt_iff_lt-mul pos).1 e in omega arith
+
+  -- an inequality times d
+  pub multiplied : {w a : ℕ → ℕ} {A U : ℕ → Type 0} {k : ℕ} (d : ℕ) → ((i : ℕ) → A i → d * a i ≤ w i) → AtLeast cov a A U k → AtLeast cov w A U (d * k)
+  multiplied {a = a} d f b = record { bound = λ L l s. omega (arith, mul-le-mul_left d (b.bound L l s), weight_le f L l, weight_times d a L) }
+
+  -- Rounding in rows: where every weight lies between lo and hi, a bound of k asks for k / hi rows, rounded up, each of weight lo.
+  pub in_rows : {w : ℕ → ℕ} {A U : ℕ → Type 0} {k : ℕ} (lo hi : ℕ) → 0 < hi → ((i : ℕ) → A i → (lo ≤ w i) × (w i ≤ hi)) → AtLeast cov w A U k
+      → AtLeast cov w A U (lo * ((k + (hi - 1)) / hi))
+  in_rows lo hi pos f b = multiplied {a = λ i. 1} lo (λ i x. omega (arith, (f i x).0)) (divided {a = λ i. 1} hi pos (λ i x. omega (arith, (f i x).1)) b)
 
   -- ---- a row taken out of a selection
 
@@ -93,16 +170,6 @@ module _ (cov : ℕ → ℕ → Type 0) where
         go L s (inl m) = omega (arith, b₂.bound L m s)
         go L s (inr m) =
             omega (arith, m.2, b₁.bound m.0 m.1 (λ c u. ⊎_elim (λ y. absurd ((left c u).1 y)) (λ y. y) (m.3 c (s c (left c u).0))))
-
-    -- a cover with the row r weighs as much as r and a cover of what r leaves
-    pub with_row : {U U' : ℕ → Type 0} {k : ℕ} → (A' r → ⊥) → ((c : ℕ) → U' c → U c × (cov r c → ⊥)) → AtLeast cov w A' U' k → AtLeastWith cov w A U r (w r + k)
-    unfolding Without
-    with_row {U} {U'} {k} out left b = record { bound = λ L l s h. go L s h (split L l) }
-      where
-        go : (L : List ℕ) → Covers cov U L → Has r L → Within A' L ⊎ Without L → w r + k ≤ weight w L
-        go L s h (inl m) = absurd (out (within_has A' r L m h))
-        go L s h (inr m) =
-            omega (arith, m.2, b.bound m.0 m.1 (λ c u. ⊎_elim (λ y. absurd ((left c u).1 y)) (λ y. y) (m.3 c (s c (left c u).0))))
 
     -- Dominance: the row r gives way to a selection of A' that weighs no more and covers its columns of U. The empty one will do where r covers none.
     pub dominated : {U : ℕ → Type 0} {k : ℕ} (S : List ℕ) → Within A' S → weight w S ≤ w r → ((c : ℕ) → U c → cov r c → Hits cov S c)

@@ -1,39 +1,92 @@
--- The ends of a branch and bound: where no column is left, what was taken is a lightest cover, and the answer of a whole search is a minimum cover.
--- Assumes nothing.
-use mathlib.Core.Path.{◌≡◌, sym, ◌∙◌}
-use mathlib.Core.Bool.{Bool, false, or-false}
-use Prim.Native.Nat.{ℕ, ◌*◌, ◌≤◌, ◌<◌}
-use native.Mathlib.Nat.{add-zero}
+-- Branch and bound: what an answer below a limit follows from, the two branches of a row included, and that the answer of a whole search is a minimum
+-- cover. Assumes nothing.
+use mathlib.Core.Path.{◌≡◌, refl, sym, ap, subst, ◌∙◌}
+use mathlib.Core.List.{[], ◌∷◌}
+use mathlib.Core.Logic.{◌⊎◌, inl, inr}
+use mathlib.Core.Bool.{Bool, true, false, cond, ◌||◌}
+use Prim.Native.Nat.{ℕ, zero, suc, ◌+◌, ◌*◌, ◌≤◌, ◌<◌}
+use native.Mathlib.Decide.{ℕ_discrete}
 use native.Mathlib.Omega.{arith}
 use lib.Dec.{ltb}
-use borrow.Author.Tests.{lt-ltb}
+use borrow.Author.Tests.{ltb-true, lt-ltb}
 use Rattle.numbers.specs.Below.{those}
-use Rattle.covering.specs.Sum.{if_set}
-use Rattle.covering.specs.Weighted.{weight, AtLeast, LeastCover, SetCovers}
+use Rattle.covering.specs.Sum.{if_set, sum}
+use Rattle.covering.specs.Weighted.{Within, Hits, weight, AtLeast, LeastCover, SetCovers, total}
 use Rattle.covering.specs.Search.{none, Reduced, Answers}
 use Rattle.numbers.proofs.Flags.{not_set}
 use Rattle.covering.proofs.Sums.{sum_most, sum_skip, if_set_le, if_set_false}
-use Rattle.covering.proofs.Bounds.{within_mono, nothing}
-use Rattle.covering.proofs.Sets.{rows_within, rows_hit, rows_weight}
+use Rattle.covering.proofs.Bounds.{within_mono, within-append, weight-append, hits_append, nothing, smaller, branch}
 use Rattle.covering.proofs.Reductions.{cover_same, cover_nothing}
 
--- ---- no column is left
+module _ (cov : ℕ → ℕ → Type 0) (w : ℕ → ℕ) (n : ℕ) where
+  -- ---- answers
 
-module _ (cov : ℕ → ℕ → Type 0) (w : ℕ → ℕ) (n : ℕ) {A A' U U' : ℕ → Type 0} {limit a : ℕ} {t : ℕ → Bool} (f : Reduced cov w n limit A U A' U' t a) where
-  pub decided_low : a ≤ limit → AtLeast cov w A U a
-  decided_low l = f.low 0 a (omega arith) l (nothing cov)
+  -- no column is left
+  pub answer_nothing : {A U : ℕ → Type 0} (limit : ℕ) → ((c : ℕ) → U c → ⊥) → Answers cov w n A U limit 0 none
+  answer_nothing limit e = record { low = nothing cov; within = omega arith; cover = λ l. cover_nothing cov w n e }
 
-  pub decided_cover : ((c : ℕ) → U' c → ⊥) → SetCovers cov w n A U t a
-  decided_cover e = cover_same cov w n (λ i. sym (or-false (t i))) (add-zero a) (f.cover none 0 (cover_nothing cov w n e))
+  -- no cover is below the limit
+  pub answer_none : {A U : ℕ → Type 0} {limit k : ℕ} (p : ℕ → Bool) → AtLeast cov w A U k → limit ≤ k → Answers cov w n A U limit limit p
+  answer_none p b l = record { low = smaller cov l b; within = omega arith; cover = λ h. absurd (omega arith) }
 
--- ---- a whole search
+  -- after a reduction
+  pub answer_reduced : {A A' U U' : ℕ → Type 0} {t p q : ℕ → Bool} {a k limit room : ℕ} → Reduced cov w n A U A' U' t a → room + a ≡ limit
+      → ((i : ℕ) → q i ≡ (t i || p i)) → Answers cov w n A' U' room k p → Answers cov w n A U limit (a + k) q
+  answer_reduced {p = p} {k = k} r e s f = record {
+    low = r.low k f.low;
+    within = omega (arith, f.within);
+    cover = λ l. cover_same cov w n s refl (r.cover p k (f.cover (omega arith)));
+  }
+
+  -- after rows were left out that no cover below the limit needs
+  pub answer_fewer : {A A' U : ℕ → Type 0} {limit k : ℕ} {p : ℕ → Bool} → ((i : ℕ) → A' i → A i) → ((x : ℕ) → x ≤ limit → AtLeast cov w A' U x → AtLeast cov w A U x)
+      → Answers cov w n A' U limit k p → Answers cov w n A U limit k p
+  answer_fewer {k = k} fewer low f = record {
+    low = low k f.within f.low;
+    within = f.within;
+    cover = λ l. let x = f.cover l in record { live = λ i y. fewer i (x.live i y); covers = x.covers; weighs = x.weighs };
+  }
+
+  -- Below what the row r gives, with a lower bound k₁ of what it leaves, the answer without r is that of the whole.
+  pub answer_without : {A A' U U' : ℕ → Type 0} {limit k k₁ : ℕ} {p : ℕ → Bool} (r : ℕ) → ((i : ℕ) → A' i → A i) → ((i : ℕ) → A i → (i ≡ r → ⊥) → A' i)
+      → ((c : ℕ) → U' c → U c × (cov r c → ⊥)) → AtLeast cov w A' U' k₁ → limit ≤ w r + k₁ → Answers cov w n A' U limit k p → Answers cov w n A U limit k p
+  answer_without r fewer rest left b l f = answer_fewer fewer (λ x m y. branch cov w r rest x left b y (omega arith) (omega arith)) f
+
+-- ---- a set as a selection
+
+rows_within : (A : ℕ → Type 0) (n : ℕ) (p : ℕ → Bool) → ((i : ℕ) → p i ≡ true → A i) → Within A (those n p)
+unfolding those
+rows_within A zero p f = tt
+rows_within A (suc n) p f = within-append A (those n p) (cond (p n) (n ∷ []) []) (rows_within A n p f) (last (p n) refl)
+  where
+    last : (b : Bool) → p n ≡ b → Within A (cond b (n ∷ []) [])
+    last true e = (f n e, tt)
+    last false e = tt
+
+rows_hit : (cov : ℕ → ℕ → Type 0) (c n : ℕ) (p : ℕ → Bool) (i : ℕ) → i < n → p i ≡ true → cov i c → Hits cov (those n p) c
+unfolding those
+rows_hit cov c zero p i l e h = absurd (omega arith)
+rows_hit cov c (suc n) p i l e h = hits_append cov (those n p) (cond (p n) (n ∷ []) []) c (go (ℕ_discrete i n) (λ k. rows_hit cov c n p i k e h))
+  where
+    go : Dec (i ≡ n) → (i < n → Hits cov (those n p) c) → Hits cov (those n p) c ⊎ Hits cov (cond (p n) (n ∷ []) []) c
+    go (yes d) ih = inr (subst (λ (b : Bool). Hits cov (cond b (n ∷ []) []) c) (sym (ap p (sym d) ∙ e)) (inl (subst (λ (x : ℕ). cov x c) d h)))
+    go (no d) ih = inl (ih (omega arith))
+
+rows_weight : (w : ℕ → ℕ) (n : ℕ) (p : ℕ → Bool) → weight w (those n p) ≡ total w n p
+unfolding those sum
+rows_weight w zero p = refl
+rows_weight w (suc n) p = omega (arith, weight-append w (those n p) (cond (p n) (n ∷ []) []), rows_weight w n p, last (p n))
+  where
+    last : (b : Bool) → weight w (cond b (n ∷ []) []) ≡ if_set b (w n)
+    last true = omega arith
+    last false = refl
 
 -- An answer is a minimum cover, where the rows are those below n, each column has one, and all of them together weigh less than the limit.
 pub minimum : (cov : ℕ → ℕ → Type 0) (w : ℕ → ℕ) (N n m : ℕ) {A U : ℕ → Type 0} {limit k : ℕ} {p : ℕ → Bool} → n ≤ N → ((i : ℕ) → A i → i < n) → ((i : ℕ) → i < n → A i)
     → ((c : ℕ) → U c → (i : ℕ) × (i < n) × cov i c) → ((i : ℕ) → w i ≤ m) → n * m < limit → Answers cov w N A U limit k p
     → LeastCover cov w (λ i. i < n) U (those n p) k
 minimum cov w N n m {A} {U} {limit} {k} {p} le below all row most l f = record {
-  within = rows_within (λ i. i < n) n p (λ i o e. o);
+  within = rows_within (λ i. i < n) n p (λ i e. below i (found.live i e));
   covers = λ c u. let t = found.covers c u in rows_hit cov c n p t.0 (below t.0 (found.live t.0 t.1)) t.1 t.2;
   weighs = rows_weight w n p ∙ sym (sum_skip n N le (λ i h o. if_set_false (w i) (past i h))) ∙ found.weighs;
   least = λ M h s. f.low.bound M (within_mono all M h) s;
@@ -49,7 +102,7 @@ minimum cov w N n m {A} {U} {limit} {k} {p} le below all row most l f = record {
     found = f.cover (omega (
       arith,
       light,
-      f.low.bound (those n every) (rows_within A n every (λ i o e. all i o))
+      f.low.bound (those n every) (rows_within A n every (λ i e. all i (ltb-true i n e)))
           (λ c u. let t = row c u in rows_hit cov c n every t.0 t.1 (lt-ltb t.0 n t.1) t.2),
     ))
 

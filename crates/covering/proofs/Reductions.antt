@@ -1,17 +1,16 @@
--- What the reductions keep: reductions compose, rows are left out where no cover below the limit is lost, a dominated row and a dominated column are dropped, and
--- the only row for a column is taken. Bounds follow from the laws of lower bounds; covers are sets of rows below n, which grow by the rows that are taken.
--- Assumes nothing.
+-- What the reductions keep: reductions compose, a dominated row and a dominated column are dropped, and the only row for a column is taken. Bounds follow from
+-- the laws of lower bounds; covers are sets of rows below n, which grow by the rows that are taken. Assumes nothing.
 use mathlib.Core.Path.{◌≡◌, refl, sym, ap, subst, ◌∙◌}
 use mathlib.Core.List.{List}
 use mathlib.Core.Logic.{◌⊎◌, inl, inr, ⊎_elim}
 use mathlib.Core.Bool.{Bool, true, ◌||◌, or-false, or_assoc}
-use Prim.Native.Nat.{ℕ, ◌+◌, ◌-◌, ◌≤◌, ◌<◌}
+use Prim.Native.Nat.{ℕ, ◌+◌, ◌≤◌, ◌<◌}
 use native.Mathlib.Nat.{add-zero}
 use native.Mathlib.Omega.{arith}
 use lib.Dec.{eqb}
 use borrow.Author.Tests.{eq-eqb, eqb-true}
 use Rattle.covering.specs.Sum.{if_set, sum}
-use Rattle.covering.specs.Weighted.{Within, Hits, weight, AtLeast, SetCovers}
+use Rattle.covering.specs.Weighted.{Within, Hits, weight, SetCovers}
 use Rattle.covering.specs.Search.{none, only, ◌∪◌, Reduced}
 use Rattle.numbers.proofs.Flags.{clash, not_set, either_of, left_of, right_of}
 use Rattle.covering.proofs.Sums.{sum_same, sum_skip, sum_with}
@@ -44,47 +43,36 @@ module _ (cov : ℕ → ℕ → Type 0) (w : ℕ → ℕ) (n : ℕ) where
 
   -- ---- reductions
 
-  pub unchanged : {A U : ℕ → Type 0} {limit : ℕ} → Reduced cov w n limit A U A U none 0
-  unchanged = record { fewer = λ i y. y; low = λ k j l m b. smaller cov (omega arith) b; cover = λ p k x. cover_same (λ i. refl) (omega arith) x }
+  pub unchanged : {A U : ℕ → Type 0} → Reduced cov w n A U A U none 0
+  unchanged = record { fewer = λ i y. y; low = λ k b. smaller cov (omega arith) b; cover = λ p k x. cover_same (λ i. refl) (omega arith) x }
 
-  -- a lower limit
-  pub sooner : {A A' U U' : ℕ → Type 0} {limit limit' a : ℕ} {s : ℕ → Bool} → limit' ≤ limit → Reduced cov w n limit A U A' U' s a → Reduced cov w n limit' A U A' U' s a
-  sooner l f = record { fewer = f.fewer; low = λ k j m o b. f.low k j m (omega arith) b; cover = f.cover }
-
-  -- the second one is below what the first leaves of the limit
-  pub then : {A B C U U' U'' : ℕ → Type 0} {s t u : ℕ → Bool} {limit room a b : ℕ} → limit ≤ a + room → ((i : ℕ) → u i ≡ (s i || t i))
-      → Reduced cov w n limit A U B U' s a → Reduced cov w n room B U' C U'' t b → Reduced cov w n limit A U C U'' u (a + b)
-  then {s = s} {t = t} {a = a} l e f g = record {
+  pub then : {A B C U U' U'' : ℕ → Type 0} {s t u : ℕ → Bool} {a b : ℕ} → ((i : ℕ) → u i ≡ (s i || t i))
+      → Reduced cov w n A U B U' s a → Reduced cov w n B U' C U'' t b → Reduced cov w n A U C U'' u (a + b)
+  then {s = s} {t = t} e f g = record {
     fewer = λ i y. f.fewer i (g.fewer i y);
-    low = λ k j m o y. f.low (j - a) j (omega arith) o (g.low k (j - a) (omega arith) (omega arith) y);
+    low = λ k y. smaller cov (omega arith) (f.low _ (g.low k y));
     cover = λ p k y. cover_same (λ i. ap (λ (x : Bool). x || p i) (e i) ∙ or_assoc (s i) (t i) (p i)) (omega arith) (f.cover _ _ (g.cover p k y));
   }
 
   -- a step in which nothing is taken
-  pub then_kept : {A B C U U' U'' : ℕ → Type 0} {s : ℕ → Bool} {limit room a : ℕ} → limit ≤ a + room
-      → Reduced cov w n limit A U B U' s a → Reduced cov w n room B U' C U'' none 0 → Reduced cov w n limit A U C U'' s a
-  then_kept {s = s} {a = a} l f g = rw add-zero at (then l (λ i. sym (or-false (s i))) f g)
+  pub then_kept : {A B C U U' U'' : ℕ → Type 0} {s : ℕ → Bool} {a : ℕ} → Reduced cov w n A U B U' s a → Reduced cov w n B U' C U'' none 0 → Reduced cov w n A U C U'' s a
+  then_kept {s = s} {a = a} f g = rw add-zero at (then (λ i. sym (or-false (s i))) f g)
 
-  -- Rows are left out, and no cover below the limit is lost.
-  pub leave_rows : {A A' U : ℕ → Type 0} {limit : ℕ} → ((i : ℕ) → A' i → A i) → ((k : ℕ) → k ≤ limit → AtLeast cov w A' U k → AtLeast cov w A U k)
-      → Reduced cov w n limit A U A' U none 0
-  leave_rows fewer low = record {
+  -- A row gives way to a selection that weighs no more and covers its columns of U.
+  pub drop_row : {A A' U : ℕ → Type 0} (r : ℕ) (S : List ℕ) → ((i : ℕ) → A' i → A i) → ((i : ℕ) → A i → (i ≡ r → ⊥) → A' i)
+      → Within A' S → weight w S ≤ w r → ((c : ℕ) → U c → cov r c → Hits cov S c) → Reduced cov w n A U A' U none 0
+  drop_row r S fewer rest live light for = record {
     fewer = fewer;
-    low = λ k j l m b. low j m (smaller cov (omega arith) b);
+    low = λ k b. smaller cov (omega arith) (dominated cov w r rest S live light for b);
     cover = λ p k x. record { live = λ i y. fewer i (x.live i y); covers = x.covers; weighs = x.weighs ∙ omega arith };
   }
 
-  -- A row gives way to a selection that weighs no more and covers its columns of U.
-  pub drop_row : {A A' U : ℕ → Type 0} {limit : ℕ} (r : ℕ) (S : List ℕ) → ((i : ℕ) → A' i → A i) → ((i : ℕ) → A i → (i ≡ r → ⊥) → A' i)
-      → Within A' S → weight w S ≤ w r → ((c : ℕ) → U c → cov r c → Hits cov S c) → Reduced cov w n limit A U A' U none 0
-  drop_row r S fewer rest live light for = leave_rows fewer (λ k l b. dominated cov w r rest S live light for b)
-
   -- Each column of U is one of U', or whatever row covers some column of U' covers it too.
-  pub drop_columns : {A U U' : ℕ → Type 0} {limit : ℕ} → ((c : ℕ) → U' c → U c)
-      → ((c : ℕ) → U c → U' c ⊎ ((d : ℕ) × U' d × ((i : ℕ) → A i → cov i d → cov i c))) → Reduced cov w n limit A U A U' none 0
+  pub drop_columns : {A U U' : ℕ → Type 0} → ((c : ℕ) → U' c → U c)
+      → ((c : ℕ) → U c → U' c ⊎ ((d : ℕ) × U' d × ((i : ℕ) → A i → cov i d → cov i c))) → Reduced cov w n A U A U' none 0
   drop_columns {A} {U} {U'} sub along = record {
     fewer = λ i y. y;
-    low = λ k j l m b. narrower cov (λ i y. y) sub (omega arith) b;
+    low = λ k b. narrower cov (λ i y. y) sub (omega arith) b;
     cover = λ p k x. record { live = x.live; covers = λ c u. by p k x c (along c u); weighs = x.weighs ∙ omega arith };
   }
     where
@@ -93,11 +81,11 @@ module _ (cov : ℕ → ℕ → Type 0) (w : ℕ → ℕ) (n : ℕ) where
       by p k x c (inr d) = let t = x.covers d.0 d.1 in (t.0, t.1, d.2 t.0 (x.live t.0 t.1) t.2)
 
   -- A column with one row takes it.
-  pub take_row : {A A' U U' : ℕ → Type 0} {limit : ℕ} (r c : ℕ) → r < n → A r → (A' r → ⊥) → ((i : ℕ) → A' i → A i) → ((i : ℕ) → A i → (i ≡ r → ⊥) → A' i)
+  pub take_row : {A A' U U' : ℕ → Type 0} (r c : ℕ) → r < n → A r → (A' r → ⊥) → ((i : ℕ) → A' i → A i) → ((i : ℕ) → A i → (i ≡ r → ⊥) → A' i)
       → U c → ((i : ℕ) → A i → cov i c → i ≡ r) → ((x : ℕ) → U' x → U x × (cov r x → ⊥)) → ((x : ℕ) → U x → cov r x ⊎ U' x)
-      → Reduced cov w n limit A U A' U' (only r) (w r)
+      → Reduced cov w n A U A' U' (only r) (w r)
   take_row {A' = A'} r c l is out fewer rest u one left right = record {
     fewer = fewer;
-    low = λ k j m o b. branch cov w r rest j left b (uncoverable cov c j u (λ i y z. out (subst A' (one i (fewer i y) z) y))) (omega arith) (omega arith);
+    low = λ k b. branch cov w r rest (w r + k) left b (uncoverable cov c (w r + k) u (λ i y z. out (subst A' (one i (fewer i y) z) y))) (omega arith) (omega arith);
     cover = λ p k x. cover_with r l is out fewer right x;
   }

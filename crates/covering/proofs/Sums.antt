@@ -24,7 +24,7 @@ sum-add zero f g = refl
 sum-add (suc n) f g = omega (arith, sum-add n f g)
 
 -- a sum with one number changed
-sum_change : (n r : ℕ) {f g : ℕ → ℕ} → r < n → ((i : ℕ) → (i ≡ r → ⊥) → f i ≡ g i) → sum n f + g r ≡ sum n g + f r
+pub sum_change : (n r : ℕ) {f g : ℕ → ℕ} → r < n → ((i : ℕ) → (i ≡ r → ⊥) → f i ≡ g i) → sum n f + g r ≡ sum n g + f r
 unfolding sum
 sum_change zero r l h = absurd (omega arith)
 sum_change (suc n) r {f} {g} l h = go (ℕ_discrete n r) (λ k. sum_change n r k h)

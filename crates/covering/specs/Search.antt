@@ -13,11 +13,11 @@ abbrev pub ◌∪◌ : (ℕ → Bool) → (ℕ → Bool) → ℕ → Bool
 ◌∪◌ p q i = p i || q i
 
 infixr 5 ◌∪◌
--- A reduction of the rows A and the columns U to A' and U', in which the rows `taken` of weight `cost` are taken, for covers below a limit: no more rows are
--- live, a lower bound of what is left bounds the whole as far as it is within the limit, and a cover of what is left is one of the whole with the rows taken.
-pub record Reduced (cov : ℕ → ℕ → Type 0) (w : ℕ → ℕ) (n limit : ℕ) (A U A' U' : ℕ → Type 0) (taken : ℕ → Bool) (cost : ℕ) : Type 0 where
+-- A reduction of the rows A and the columns U to A' and U', in which the rows `taken` of weight `cost` are taken: no more rows are live, a lower bound
+-- of what is left bounds the whole, and a cover of what is left is one of the whole with the rows taken.
+pub record Reduced (cov : ℕ → ℕ → Type 0) (w : ℕ → ℕ) (n : ℕ) (A U A' U' : ℕ → Type 0) (taken : ℕ → Bool) (cost : ℕ) : Type 0 where
   pub fewer : (i : ℕ) → A' i → A i
-  pub low : (k j : ℕ) → j ≤ cost + k → j ≤ limit → AtLeast cov w A' U' k → AtLeast cov w A U j
+  pub low : (k : ℕ) → AtLeast cov w A' U' k → AtLeast cov w A U (cost + k)
   pub cover : (p : ℕ → Bool) (k : ℕ) → SetCovers cov w n A' U' p k → SetCovers cov w n A U (taken ∪ p) (cost + k)
 
 -- the answer of a search below a limit: a lower bound k that is at most the limit, with a cover of that weight where it is below the limit

@@ -5,6 +5,7 @@
 //         Counted::Count(k) => k,
 //         Counted::Refused(number) => ..,
 //     }
+#![tactic(auto)]
 
 // A count, or the number of the refusal.
 #[derive(Drop)]

@@ -3,6 +3,8 @@
 //
 //     let mut places = [0u16; 9];
 //     essentials::essentials(2, &[1, 0, 0, 2], &mut places)   // count 1: cube 0 (00); 11 matches no wanted code
+#![tactic(auto)]
+
 ghost use Rattle.std.specs.Prelude.{◌≡◌, cond, ◌<◌, ◌≤◌, ◌^◌, length};
 ghost use Rattle.numbers.specs.Lent.{Puts};
 ghost use Rattle.cube.specs.Words.{serving_prime, essential, essentials_of};

@@ -1,5 +1,7 @@
 // Runs Primes, Essentials and Plan on the worked examples of the papers, which `tests/examples` lists, and prints what they
 // answer.
+#![tactic(auto)]
+
 mod documents;
 mod print;
 mod terms;

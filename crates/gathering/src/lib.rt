@@ -2,6 +2,8 @@
 //
 //     gathering::gather(2, &[2, 1], &[2, 3])      // Codes(14): the row 1- matches 2 and 3, the row 01 matches 1
 //     gathering::gather(2, &[2, 1], &[2, 2])      // BadRow: value 1 has a one outside care 2
+#![tactic(auto)]
+
 ghost use Rattle.std.specs.Prelude.{◌≡◌, true, not, ◌&&◌, ◌||◌, ℕ, ◌<◌, ◌≤◌, ◌^◌, length};
 ghost use Rattle.cube.specs.Words.{formed, row_matches, rows_of};
 ghost use Rattle.cube.specs.Calls.{widest};

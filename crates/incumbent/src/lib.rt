@@ -2,6 +2,8 @@
 // only if it is one.
 //
 // Rows {0, 1}, {1, 2} and {0, 2}, each of weight 5, for the columns 0, 1 and 2: the rows 0 and 1 are a cover of weight 10, and the row 0 alone is none.
+#![tactic(auto)]
+
 ghost use Rattle.std.specs.Prelude.{◌+◌, ◌<◌};
 ghost use Rattle.matrix.specs.Matrix.{row_count, Sizes};
 ghost use Rattle.incumbent.specs.Incumbent.{Incumbent};

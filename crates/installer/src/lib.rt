@@ -3,6 +3,8 @@
 //
 //     rows_plan(2, table, 4, values, 2, cares, 2)      // for the table 0 1 1 1: 20002, two rows with two tested bits
 //     rows_primes(2, table, 4, cubes, 9)               // for the same table: 2, and the first places hold 5 (12) and 7 (21)
+#![tactic(auto)]
+
 ghost use Rattle.std.specs.Prelude.{◌≡◌, length};
 ghost use Rattle.cube.specs.Words.{codes_of, serving_primes_of, essentials_of};
 ghost use Rattle.cube.specs.Calls.{count_answer};

@@ -4,6 +4,8 @@
 //     let mut values = [0u8; 2];
 //     let mut cares = [0u8; 2];
 //     keep_out::keep_out(2, &[0, 1, 1, 1], &mut values, &mut cares)   // 1 row, 2 bits: 00, value 0, care 3
+#![tactic(auto)]
+
 ghost use Rattle.std.specs.Prelude.{◌≡◌, ◌≤◌, length};
 ghost use Rattle.numbers.specs.Lent.{Puts};
 ghost use Rattle.keep_out.specs.KeepOut.{PlansKeepOut};

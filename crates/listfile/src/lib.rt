@@ -5,6 +5,8 @@
 //     let mut values = [0u8; 2];
 //     let mut cares = [0u8; 2];
 //     listfile::read(&file, &mut values, &mut cares)           // width 4, count 2: values 8 9, cares 8 13
+#![tactic(auto)]
+
 ghost use Rattle.std.specs.Prelude.{◌≡◌, ◌≤◌, length};
 ghost use Rattle.std.proofs.lemmas.List.Edits.{sets};
 ghost use Rattle.cube.specs.Calls.{widest, most_rows, bad_row, first_of, written};

@@ -2,6 +2,8 @@
 //
 //     lists::list_refusal(4, &[8], &[8])      // 0: value 8 and care 8 are a formed row
 //     lists::list_refusal(4, &[8], &[7])      // 7: value 8 has a one outside care 7
+#![tactic(auto)]
+
 ghost use Rattle.std.specs.Prelude.{◌≡◌, ◌≤◌, length};
 ghost use Rattle.cube.specs.Words.{formed, rows_of};
 ghost use Rattle.cube.specs.Calls.{widest, unequal_lengths, too_many_rows, bad_row, list_conditions, first_of};

@@ -3,4 +3,3 @@ pub mod Bits
 pub mod Members
 pub mod Walks
 pub mod Without
-pub mod Transposing

@@ -2,4 +2,3 @@
 pub mod ColumnSets
 pub mod Sets
 pub mod Matrix
-pub mod Transposed

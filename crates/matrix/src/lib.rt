@@ -3,6 +3,8 @@
 // which are sets of columns.
 //
 // A row with the columns 0 and 3, asked for its columns: `columns::next(9, 0)` is 0, `columns::next(9, 1)` is 3 and `columns::next(9, 4)` is `columns::LIMIT`, the end.
+#![tactic(auto)]
+
 ghost use Rattle.std.specs.Prelude.{◌≡◌, ◌<◌, min, max, length};
 ghost use Rattle.matrix.specs.Matrix.{row_count, covered as coveredBy, weight_of, weight_limit};
 

@@ -4,6 +4,8 @@
 //
 //     let mut places = [0u16; 9];
 //     neighbours::essentials_by_neighbours(2, &[1, 0, 0, 2], &mut places)     // count 1: cube 0 (00); both neighbours of 0 are barred
+#![tactic(auto)]
+
 mod ascending;
 mod vicinities;
 

@@ -2,6 +2,8 @@
 // of the prices that they find but that finding them ends: whoever uses prices adds up what they show. What a set of columns is worth is told exactly.
 //
 // Three columns and three rows of weight 2, each with two of the columns: from a fair share each column gets the price 1, in parts `SCALE`.
+#![tactic(auto)]
+
 ghost use Rattle.std.specs.Prelude.{◌≡◌, ◌-◌, ◌<◌};
 ghost use Rattle.matrix.specs.Sets.{has};
 ghost use Rattle.matrix.specs.Matrix.{weight_limit};

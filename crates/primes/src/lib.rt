@@ -4,6 +4,8 @@
 //
 //     let mut places = [0u16; 9];
 //     primes::primes(2, &[1, 0, 0, 2], &mut places)   // count 1: cube 0 (00); 11 matches no wanted code
+#![tactic(auto)]
+
 ghost use Rattle.std.specs.Prelude.{◌≡◌, not, ◌<◌, ◌≤◌, ◌^◌, eqb, length};
 ghost use Rattle.numbers.specs.Below.{those};
 ghost use Rattle.numbers.specs.Lent.{Puts};

@@ -2,6 +2,8 @@
 // place `at` on or from its front, and returns the place after what it wrote.
 //
 //     product::line(2, &[0], &[3], 1, &mut out)      // for the row 00: (x1+x2) and a line feed
+#![tactic(auto)]
+
 ghost use Rattle.std.specs.Prelude.{◌≡◌, ◌+◌, ◌≤◌, length};
 ghost use Rattle.cube.specs.Words.{first_rows};
 ghost use Rattle.cube.specs.Theorems.{Variable};

@@ -1,6 +1,4 @@
 -- What the loops of the reductions keep, and what each step of a reduction shows.
 pub mod Narrowing
 pub mod Counting
-pub mod Judging
 pub mod Steps
-pub mod Ending

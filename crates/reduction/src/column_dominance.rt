@@ -1,8 +1,9 @@
 // Column dominance: a column is dropped when another column's rows all cover it too. Of equal columns one stays.
-ghost use Rattle.std.specs.Prelude.{◌≤◌};
+ghost use Rattle.std.specs.Prelude.{List, ℕ, ◌≤◌};
 ghost use Rattle.matrix.specs.Sets.{row_limit};
 ghost use Rattle.matrix.specs.Matrix.{row_count};
-ghost use Rattle.reduction.specs.Steps.{Along, Narrowed, ColumnsApart};
+ghost use Rattle.reduction.specs.Reduction.{Keeps};
+ghost use Rattle.reduction.specs.Steps.{Along, Narrowed};
 
 use matrix::{columns, rows};
 
@@ -36,10 +37,10 @@ fn come_along(words: &[u64], live: &rows::Set, undecided: columns::Set) -> Compa
     along
 }
 
-// The undecided columns without those that another one brings along: of those that are left, none brings another along.
+// The undecided columns without those that another one brings along.
 pub fn drop_columns(words: &[u64], live: &rows::Set, undecided: columns::Set) -> columns::Set
     requires { row_count words.now ≤ row_limit }
-    ensures { ColumnsApart words.now live.now undecided result }
+    ensures { (weights : List ℕ) → Keeps words.now weights live.now undecided live.now result }
 {
     let along = come_along(words, live, undecided);
     let mut kept = undecided;

@@ -1,9 +1,9 @@
 // A column left with one row takes it.
-ghost use Rattle.std.specs.Prelude.{◌≡◌, ◌-◌, ◌≤◌, ◌<◌};
-ghost use Rattle.matrix.specs.Sets.{column_limit, row_limit};
+ghost use Rattle.std.specs.Prelude.{◌≡◌, false, ℕ, ◌≤◌, ◌<◌};
+ghost use Rattle.matrix.specs.Sets.{column_limit, row_limit, has};
 ghost use Rattle.matrix.specs.Matrix.{Sizes, row_count};
 ghost use Rattle.reduction.specs.Reduction.{CostBounded};
-ghost use Rattle.reduction.specs.Steps.{CoveredTwice, RowFound, Takeable, RowTaken, Single, Settled, ForcedTaken};
+ghost use Rattle.reduction.specs.Steps.{OneRow, RowFound, Takeable, RowTaken, Single, Onward};
 
 use crate::Remaining;
 use matrix::{columns, rows};
@@ -11,7 +11,7 @@ use matrix::{columns, rows};
 // The columns that two or more live rows cover.
 fn covered_twice(words: &[u64], live: &rows::Set) -> columns::Set
     requires { row_count words.now ≤ row_limit }
-    ensures { CoveredTwice words.now live.now result }
+    ensures { (c : ℕ) → has result c ≡ false → OneRow words.now live.now c }
 {
     let mut coverage = columns::Coverage {
         once: columns::NONE,
@@ -42,14 +42,7 @@ fn row_for(words: &[u64], live: &rows::Set, c: usize) -> usize
     end
 }
 
-// One less than n, or nothing where n is nothing.
-fn one_less(n: u64) -> u64
-    ensures { result ≡ n - 1 }
-{
-    if n == 0 { 0 } else { n - 1 }
-}
-
-// What is left once the live row r is taken: it is no longer live, its columns are decided, its weight is counted, and one row less is needed.
+// What is left once the live row r is taken: it is no longer live, its columns are decided, and its weight is counted.
 pub fn take_row(words: &[u64], weights: &[u32], state: Remaining, r: usize) -> Remaining
     requires { Takeable words.now weights.now state r }
     ensures { RowTaken words.now weights.now state r result }
@@ -62,14 +55,13 @@ pub fn take_row(words: &[u64], weights: &[u32], state: Remaining, r: usize) -> R
         undecided: columns::without(undecided, matrix::covered(words, r)),
         taken: rows::with_row(taken, r),
         cost: state.cost + matrix::weight(weights, r),
-        need: one_less(state.need),
     }
 }
 
 // What is left once the row for the column c is taken, if the column is undecided and has one.
 fn take(words: &[u64], weights: &[u32], state: Remaining, c: usize) -> Remaining
     requires { Single words.now weights.now state c }
-    ensures { Settled words.now weights.now state c result }
+    ensures { Onward words.now weights.now state result }
 {
     let undecided = state.undecided;
     if !columns::has(undecided, c) {
@@ -86,7 +78,7 @@ fn take(words: &[u64], weights: &[u32], state: Remaining, c: usize) -> Remaining
 // What is left once each row that is the only one for an undecided column is taken.
 pub fn take_forced(words: &[u64], weights: &[u32], state: Remaining) -> Remaining
     requires { Sizes words.now weights.now × CostBounded state }
-    ensures { ForcedTaken words.now weights.now state result }
+    ensures { Onward words.now weights.now state result }
 {
     let live = state.live;
     let undecided = state.undecided;

@@ -1,8 +1,9 @@
 // Row dominance: a row is dropped for another that covers all its undecided columns and weighs no more. Of equal rows one stays, and a row that covers no
 // undecided column is dropped outright.
-ghost use Rattle.std.specs.Prelude.{◌<◌};
+ghost use Rattle.std.specs.Prelude.{◌≡◌, true, ◌<◌};
 ghost use Rattle.matrix.specs.Matrix.{Sizes, row_count};
-ghost use Rattle.reduction.specs.Steps.{Dominance, DominatorFound, Judgeable, RowJudged, RowsDropped};
+ghost use Rattle.reduction.specs.Reduction.{Keeps};
+ghost use Rattle.reduction.specs.Steps.{Dominates};
 
 use matrix::{columns, rows, transposed};
 
@@ -16,7 +17,7 @@ fn dominates(
     j: usize,
 ) -> bool
     requires { Sizes words.now weights.now × (i < row_count words.now) × (j < row_count words.now) }
-    ensures { Dominance words.now weights.now live.now undecided i j result }
+    ensures { result ≡ true → Dominates words.now weights.now live.now undecided i j }
 {
     let set = columns::both(matrix::covered(words, i), undecided);
     if !columns::inside(set, matrix::covered(words, j)) {
@@ -41,7 +42,7 @@ fn dominator(
     i: usize,
 ) -> usize
     requires { Sizes words.now weights.now × (i < row_count words.now) }
-    ensures { DominatorFound words.now weights.now live.now undecided found.now i result }
+    ensures { result < row_count words.now → Dominates words.now weights.now live.now undecided i result }
 {
     let end = matrix::row_count(words);
     let mut j = rows::next(found, 0, end);
@@ -63,8 +64,8 @@ fn drop_row(
     by_column: &transposed::ByColumn,
     i: usize,
 ) -> rows::Set
-    requires { Judgeable words.now weights.now live undecided by_column.now i }
-    ensures { RowJudged words.now weights.now live undecided i result }
+    requires { Sizes words.now weights.now × (i < row_count words.now) }
+    ensures { Keeps words.now weights.now live undecided result undecided }
 {
     let set = columns::both(matrix::covered(words, i), undecided);
     if columns::is_empty(set) {
@@ -78,23 +79,22 @@ fn drop_row(
     live
 }
 
-// The live rows without those that cover no undecided column or are dominated.
+// The live rows without those that are dominated.
 pub fn drop_rows(
     words: &[u64],
     weights: &[u32],
     live: rows::Set,
     undecided: columns::Set,
-    by_column: &mut transposed::ByColumn,
 ) -> rows::Set
     requires { Sizes words.now weights.now }
-    ensures { RowsDropped words.now weights.now live undecided result }
+    ensures { Keeps words.now weights.now live undecided result undecided }
 {
-    transposed::fill(words, &live, undecided, by_column);
+    let by_column = transposed::fill(words, &live, undecided);
     let mut kept = live;
     let end = matrix::row_count(words);
     let mut i = rows::next(&kept, 0, end);
     while i < end {
-        let rest = drop_row(words, weights, kept, undecided, by_column, i);
+        let rest = drop_row(words, weights, kept, undecided, &by_column, i);
         kept = rest;
         i = rows::next(&kept, i + 1, end);
     }

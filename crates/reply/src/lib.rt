@@ -1,6 +1,8 @@
 // What the program `rows` prints: a text that was read is closed, planned and printed.
 //
 //     reply::reply(input::feed(Reading::Start, &mut cells, b"2\n0111\n"), &cells, &mut out)     // 1-, -1, rows 2 bits 2
+#![tactic(auto)]
+
 ghost use Rattle.std.specs.Prelude.{◌≤◌, length};
 ghost use Rattle.plan.specs.Theorems.{MayWrite};
 ghost use Rattle.text.specs.Output.{rows_text, PrintsInput};

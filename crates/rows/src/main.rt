@@ -1,5 +1,7 @@
 // The program `rows`: a table on standard input, its shortest list on standard output. Reading and writing are `streams`', the
 // grammar and the lines are `text`'s, and what is printed is `reply`'s.
+#![tactic(auto)]
+
 ghost use Rattle.std.specs.Prelude.{length, ◌≤◌};
 ghost use Rattle.text.specs.Steps.{most_output};
 ghost use Rattle.streams.specs.Streams.{WholeOutput};

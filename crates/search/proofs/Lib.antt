@@ -1,4 +1,4 @@
 -- What the loops of the search keep, and what its answers follow from.
 pub mod RowsSeen
-pub mod Nodes
+pub mod Greedily
 pub mod Branches

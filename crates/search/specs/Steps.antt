@@ -1,20 +1,18 @@
--- What the steps of the search show: the node that is reduced and bounded, the row to branch on, the row and its orbit forgotten, and the answer below a
--- limit. No promise of the search cites these. Definitions only. Assumes nothing.
-use Rattle.std.specs.Prelude.{◌≡◌, ℕ, ◌+◌, ◌^◌, ◌<◌, ◌≤◌, min, true, false, ◌||◌, ◌⊎◌, List}
+-- What the steps of the search show: a first incumbent, the row to branch on, the two branches, and the answer below a limit. No promise of the search
+-- cites these. Definitions only. Assumes nothing.
+use Rattle.std.specs.Prelude.{◌≡◌, ℕ, ◌+◌, ◌^◌, ◌<◌, ◌≤◌, min, ◌||◌, ◌⊎◌, List, ◌==◌}
+use Rattle.covering.specs.Weighted.{SetCovers}
 use Rattle.covering.specs.Search.{Answers}
 use Rattle.matrix.specs.Sets.{ColumnSet, column_limit, RowSet, row_limit, In, member, Member}
-use Rattle.matrix.specs.Matrix.{row_count, CoversColumn, weight_of, Low, Sizes}
-use Rattle.reduction.specs.Reduction.{Reduces, Needy, CostBounded, Irreducible}
+use Rattle.matrix.specs.Matrix.{row_count, CoversColumn, weight_of, Low}
 use Rattle.reduction.specs.declared.Remaining.{Remaining}
-use Rattle.bound.specs.Bound.{cost_limit}
-use Rattle.symmetry.specs.Symmetry.{LowWith}
-use Rattle.incumbent.specs.Incumbent.{Incumbent}
+use Rattle.bound.specs.Bound.{Kept}
 use Rattle.search.specs.declared.Solution.{Solution}
-use Rattle.search.specs.declared.Node.{Node}
+use Rattle.search.specs.declared.BranchPoint.{BranchPoint}
 
 -- ---- numbers
 
--- all rows together weigh less than this number: the weight where no first cover is found
+-- all rows together weigh less than this number: the weight where no greedy cover is found
 abbrev pub no_cover : ℕ
 no_cover = 2 ^ 42
 
@@ -24,72 +22,10 @@ no_cover = 2 ^ 42
 abbrev pub Found : List ℕ → List ℕ → RowSet → ColumnSet → ℕ → ℕ → RowSet → Type 0
 Found words weights live u limit weight picked = Answers (CoversColumn words) (weight_of weights) row_limit (Member live) (In u) limit weight (member picked)
 
--- the rows taken, with the answer for what is left
-pub record WithTaken (state : Remaining) (found a : Solution) : Type 0 where
-  pub weight : a.weight ≡ state.cost + found.weight
-  pub picked : (j : ℕ) → member a.picked j ≡ (member state.taken j || member found.picked j)
-
--- the lighter of an incumbent and another answer
-pub record Lighter (incumbent found a : Solution) : Type 0 where
-  pub weight : a.weight ≡ min incumbent.weight found.weight
-  pub improved : found.weight < incumbent.weight → a.picked ≡ found.picked
-  pub kept : incumbent.weight ≤ found.weight → a.picked ≡ incumbent.picked
-
--- ---- nodes
-
--- what can be searched below a limit: what the reductions and the bound ask for
-pub record Searchable (words weights : List ℕ) (limit : ℕ) (s : Remaining) : Type 0 where
-  pub sizes : Sizes words weights
-  pub small : limit < cost_limit
-  pub room : CostBounded s
-  pub few : s.need ≤ row_limit
-  pub needs : Needy words weights limit s
-
--- From s to a node: whatever came down to s below the limit comes down to the node, or no cover of it is below the limit where the node is closed.
-pub record Passed (words weights : List ℕ) (limit : ℕ) (s : Remaining) (n : Node) : Type 0 where
-  pub fewer : (i : ℕ) → Member n.state.live i → Member s.live i
-  pub searchable : Searchable words weights limit n.state
-  pub reduced : (live : RowSet) (u : ColumnSet) → Reduces words weights live u limit s → Reduces words weights live u limit n.state
-  pub closed : n.closed ≡ true → (live : RowSet) (u : ColumnSet) → Reduces words weights live u limit s → Low words weights live u limit
-  pub below : n.closed ≡ false → n.state.cost < limit
-
--- and the same columns are undecided
-pub record SameColumns (words weights : List ℕ) (limit : ℕ) (s : Remaining) (n : Node) : Type 0 where
-  pub passed : Passed words weights limit s n
-  pub undecided : n.state.undecided ≡ s.undecided
-
--- and what is left at a node that is not closed cannot be reduced
-pub record Settled (words weights : List ℕ) (limit : ℕ) (s : Remaining) (n : Node) : Type 0 where
-  pub passed : Passed words weights limit s n
-  pub irreducible : n.closed ≡ false → Irreducible words weights n.state.live n.state.undecided
-
--- the rows live and the columns u come down to a node below the limit
-pub record Reaches (words weights : List ℕ) (live : RowSet) (u : ColumnSet) (limit : ℕ) (n : Node) : Type 0 where
-  pub reduces : Reduces words weights live u limit n.state
-  pub closed : n.closed ≡ true → Low words weights live u limit
-  pub below : n.closed ≡ false → n.state.cost < limit
-
--- the node m is one below a lower limit, wherever the node n is one below the limit before
-pub record Resettled (words weights : List ℕ) (before : ℕ) (n : Node) (limit : ℕ) (m : Node) : Type 0 where
-  pub searchable : Searchable words weights limit m.state
-  pub reaches : (live : RowSet) (u : ColumnSet) → Reaches words weights live u before n → Reaches words weights live u limit m
-
--- a weighs no more than the first cover, and is an incumbent of whatever comes down to the node where that is one
-pub record Improves (words weights : List ℕ) (n : Node) (first a : Solution) : Type 0 where
-  pub within : a.weight ≤ first.weight
-  pub incumbent : (live : RowSet) (u : ColumnSet) (limit : ℕ) → Reaches words weights live u first.weight n → Incumbent words weights live u limit first.weight first.picked
-      → Incumbent words weights live u limit a.weight a.picked
-
--- the row r is forgotten, with rows whose covers weigh no less than those with r: nothing else changes
-pub record Forgotten (words weights : List ℕ) (s : Remaining) (r : ℕ) (t : Remaining) : Type 0 where
-  pub fewer : (i : ℕ) → Member t.live i → Member s.live i
-  pub gone : Member t.live r → ⊥
-  pub low : (i : ℕ) → Member s.live i
-      → Member t.live i ⊎ ((k : ℕ) → LowWith words weights s.live s.undecided r k → LowWith words weights s.live s.undecided i k)
-  pub undecided : t.undecided ≡ s.undecided
-  pub taken : t.taken ≡ s.taken
-  pub cost : t.cost ≡ s.cost
-  pub need : t.need ≡ s.need
+-- the rows picked are a cover, where the weight is below the limit
+pub record Incumbent (words weights : List ℕ) (live : RowSet) (u : ColumnSet) (limit weight : ℕ) (picked : RowSet) : Type 0 where
+  pub within : weight ≤ limit
+  pub cover : weight < limit → SetCovers (CoversColumn words) (weight_of weights) row_limit (Member live) (In u) (member picked) weight
 
 -- ---- the choice of a row
 
@@ -118,3 +54,29 @@ pub record Branch (words : List ℕ) (live : RowSet) (u : ColumnSet) (r : ℕ) :
   pub within : r ≤ row_count words
   pub here : r < row_count words → Member live r
   pub nowhere : r ≡ row_count words → (c : ℕ) × In u c × ((i : ℕ) → Member live i → CoversColumn words i c → ⊥)
+
+-- Rows are left out of the live ones, and no cover below the limit is lost. The row to branch on is one of those left, or the number of rows where no
+-- cover is below the limit.
+pub record BranchesBelow (words weights : List ℕ) (live : RowSet) (u : ColumnSet) (limit : ℕ) (p : BranchPoint) : Type 0 where
+  pub kept : Kept words weights live u limit p.live
+  pub within : p.row ≤ row_count words
+  pub here : p.row < row_count words → Member p.live p.row
+  pub nowhere : p.row ≡ row_count words → Low words weights live u limit
+
+-- ---- answers put together
+
+-- the row r, of weight w, with the answer for what it leaves; the weight is at most the limit
+pub record Taking (found : Solution) (r w limit : ℕ) (a : Solution) : Type 0 where
+  pub weight : a.weight ≡ min (found.weight + w) limit
+  pub picked : (j : ℕ) → member a.picked j ≡ (j == r || member found.picked j)
+
+-- the rows taken, with the answer for what is left
+pub record WithTaken (rest : Remaining) (found a : Solution) : Type 0 where
+  pub weight : a.weight ≡ rest.cost + found.weight
+  pub picked : (j : ℕ) → member a.picked j ≡ (member rest.taken j || member found.picked j)
+
+-- the lighter of an incumbent and the answer of a search below it
+pub record Lighter (incumbent found a : Solution) : Type 0 where
+  pub weight : a.weight ≡ min incumbent.weight found.weight
+  pub improved : found.weight < incumbent.weight → a.picked ≡ found.picked
+  pub kept : incumbent.weight ≤ found.weight → a.picked ≡ incumbent.picked

@@ -1,15 +1,11 @@
-// The row to branch on. Any live row would do: which one is a heuristic. Where a linear program was solved, it is the row whose share is nearest to a half;
-// otherwise it is the widest for the undecided column whose rows together cover the most columns for their number.
+// The row to branch on. Any live row would do: which one is a heuristic. This one is the widest for the undecided column whose rows together cover the most
+// columns for their number.
 ghost use Rattle.std.specs.Prelude.{◌≡◌, ℕ, ◌<◌, ◌≤◌, false, ◌⊎◌};
 ghost use Rattle.matrix.specs.Matrix.{row_count, Sizes, weight_limit};
 ghost use Rattle.matrix.specs.Sets.{column_limit, row_limit, In};
-ghost use Rattle.search.specs.Steps.{Branch, ColumnOf, LiveRow, Preferred, RowFor};
+ghost use Rattle.search.specs.Steps.{Branch, ColumnOf, Preferred, RowFor};
 
 use matrix::{columns, rows};
-use pricing::simplex;
-
-// What a column of a row adds to its rating.
-const WIDTH_RATE: f32 = 0.001;
 
 // How many rows each column has.
 type Counts = [u32; columns::LIMIT];
@@ -151,74 +147,16 @@ fn widest_row(
     best
 }
 
-// How good the row i is to branch on by its share in the linear program: the nearer to a half the better, and of nearly equal ones the wider.
-fn rating(words: &[u64], undecided: columns::Set, recalled: &simplex::Recalled, i: usize) -> f32
-    requires { (row_count words.now ≤ row_limit) × (i < row_count words.now) }
-{
-    let share = recalled[i];
-    let set = columns::both(matrix::covered(words, i), undecided);
-    let near = if share < 0.5 { share } else { 1.0 - share };
-    near + WIDTH_RATE * std::num::nearest_u32_to_f32(columns::size(set))
-}
-
-// The row i if it is the first one or has a better rating than the best so far, otherwise the latter.
-fn prefer_share(
-    words: &[u64],
-    undecided: columns::Set,
-    recalled: &simplex::Recalled,
-    i: usize,
-    best: usize,
-) -> usize
-    requires { (row_count words.now ≤ row_limit) × (i < row_count words.now) }
-    ensures { (result ≡ i) ⊎ (result ≡ best) }
-{
-    if matrix::row_count(words) <= best {
-        return i;
-    }
-    if rating(words, undecided, recalled, best) < rating(words, undecided, recalled, i) {
-        return i;
-    }
-    best
-}
-
-// The live row with the best rating, or the number of rows.
-fn row_by_share(
-    words: &[u64],
-    live: &rows::Set,
-    undecided: columns::Set,
-    recalled: &simplex::Recalled,
-) -> usize
-    requires { row_count words.now ≤ row_limit }
-    ensures { LiveRow words.now live.now result }
-{
-    let end = matrix::row_count(words);
-    let mut best = end;
-    let mut i = rows::next(live, 0, end);
-    while i < end {
-        best = prefer_share(words, undecided, recalled, i, best);
-        i = rows::next(live, i + 1, end);
-    }
-    best
-}
-
-// The row to branch on, by the shares of the linear program if there are any, or the number of rows where no live row covers some undecided column.
+// The row to branch on, or the number of rows where no live row covers some undecided column.
 pub fn branching_row(
     words: &[u64],
     weights: &[u32],
     live: &rows::Set,
     undecided: columns::Set,
-    shares: bool,
-    recalled: &simplex::Recalled,
 ) -> usize
     requires { Sizes words.now weights.now × ((c : ℕ) × In undecided c) }
     ensures { Branch words.now live.now undecided result }
 {
-    if shares {
-        let r = row_by_share(words, live, undecided, recalled);
-        if r < matrix::row_count(words) {
-            return r;
-        }
-    }
     let c = densest_column(words, live, undecided);
     widest_row(words, weights, live, undecided, c)
 }

@@ -1,6 +1,8 @@
 // The search for C: `uint64_t minimum_cover(const uint64_t *words, size_t rows, const uint32_t *weights, size_t weights_len, uint64_t columns, uint64_t *effort)`.
 // Where each column has a row, it answers the weight of a minimum cover. Where there are more than 768 rows or not as many weights, it refuses with
 // 2 ^ 64 - 1 and leaves `effort` alone. Otherwise the nodes visited and the depth of the calls go into the two places of `effort`: nothing is proved of them.
+#![tactic(auto)]
+
 ghost use Rattle.search_c.specs.Exported.{Exported};
 
 use matrix::{columns, rows};

@@ -2,6 +2,8 @@
 // three are here too; all other code takes them from here, for bits, for cube digits and for the number of codes and cubes of a width.
 //
 //     spelling::spell(4, 53)      // digits 1 2 2 2: value 8, care 8
+#![tactic(auto)]
+
 mod cares;
 mod values;
 

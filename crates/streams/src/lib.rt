@@ -2,6 +2,8 @@
 //
 //     let reading = streams::read_all(&mut cells);              // what was read, with the cells that are kept in the buffer
 //     streams::hand_over(&out[..length], b"writing failed\n");  // the output, or on standard error that it was not taken
+#![tactic(auto)]
+
 ghost use Rattle.std.specs.Prelude.{length, ◌≤◌};
 ghost use Rattle.libc.specs.Io.{Moved};
 ghost use Rattle.text.specs.Steps.{most_cells, Room};

@@ -1,5 +1,7 @@
 // The program `sums`: a table on standard input, the product of sums of its shortest keep-out list on standard output. Reading and writing are `streams`',
 // the grammar is `text`'s, the line is `product`'s, and what is printed is `sums_reply`'s.
+#![tactic(auto)]
+
 ghost use Rattle.std.specs.Prelude.{length, ◌≤◌};
 ghost use Rattle.product.specs.Steps.{most_line};
 ghost use Rattle.streams.specs.Streams.{WholeOutput};

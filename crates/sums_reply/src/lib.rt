@@ -1,6 +1,8 @@
 // What the program `sums` prints: a text that was read is closed, a keep-out list is built and its product of sums printed.
 //
 //     sums_reply::reply(input::feed(Reading::Start, &mut cells, b"2\n0111\n"), &cells, &mut out)     // (x1+x2)
+#![tactic(auto)]
+
 ghost use Rattle.std.specs.Prelude.{◌≤◌, length};
 ghost use Rattle.keep_out.specs.KeepOut.{MayKeepOut};
 ghost use Rattle.text.specs.Output.{PrintsInput};

@@ -2,6 +2,8 @@
 // weights and the undecided columns, every cover with the one can be exchanged for a cover with the other that weighs no more.
 //
 // Rows {0, 1}, {1, 3}, {2, 3} and {0, 2}, each of weight 1, for the columns 0 to 3: the orbit of each row is all four.
+#![tactic(auto)]
+
 ghost use Rattle.std.specs.Prelude.{◌<◌};
 ghost use Rattle.matrix.specs.Sets.{Member};
 ghost use Rattle.matrix.specs.Matrix.{Sizes, row_count};

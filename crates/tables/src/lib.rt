@@ -2,6 +2,8 @@
 //
 //     tables::table_refusal(2, &[0, 1, 1])        // 2: three cells, not four
 //     tables::table_refusal(2, &[0, 1, 1, 2])     // 0: not refused
+#![tactic(auto)]
+
 ghost use Rattle.std.specs.Prelude.{◌≡◌};
 ghost use Rattle.cube.specs.Calls.{bad_cell, table_conditions, first_of};
 ghost use Rattle.tables.specs.Listing.{primes_refuses};

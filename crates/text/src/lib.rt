@@ -3,5 +3,7 @@
 //
 //     text::input::close(text::input::feed(Reading::Start, &mut cells, b"2\n0111\n"))     // width 2, and 4 cells: 0 1 1 1
 //     text::output::list(2, &[2, 1], &[2, 1], 2, 2, &mut out)    // 1-, -1, rows 2 bits 2
+#![tactic(auto)]
+
 pub mod input;
 pub mod output;

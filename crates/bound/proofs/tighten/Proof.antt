@@ -1,45 +1,36 @@
--- `bound::tighten` meets its contract: the ascents are enough, or the linear programs bound what these leave. Assumes nothing.
-use borrow.Author.Rules.{rules}
+-- `bound::tighten` meets its contract: the first bound is enough, or the second is one for the rows that the first leaves. Assumes nothing.
+use Rattle.std.proofs.Common.{rules}
 use Rattle.bound.proofs.Pricing.{bounds_then}
 use Rattle.bound.proofs.tighten.Statement.{statement}
 use Rattle.bound.proofs.tighten.Tie as tie
 
-row-count-requires : tie.Need-row-count-requires
-row-count-requires c κs = search rules
+from-zero-requires : tie.Need-from-zero-requires
+from-zero-requires c κs = search rules
 
-size-requires : tie.Need-size-requires
-size-requires c κs = search rules
-
-fill-requires : tie.Need-fill-requires
-fill-requires c κs = search rules
-
-by-all-ascents-requires : tie.Need-by-all-ascents-requires
-by-all-ascents-requires c κs = search rules
-
-is-enough-requires : tie.Need-is-enough-requires
-is-enough-requires c κs = search rules
+certified-requires : tie.Need-certified-requires
+certified-requires c κs = search rules
 
 returns : tie.Need-returns
 returns c = search rules
 
-by-programs-requires : tie.Need-by-programs-requires
-by-programs-requires c κs = search rules
+from-shares-requires : tie.Need-from-shares-requires
+from-shares-requires c κs = search rules
+
+certified-requires-2 : tie.Need-certified-requires-2
+certified-requires-2 c κs = search rules
 
 returns_2 : tie.Need-returns-2
 returns_2 c =
-    let rest = c.before.before.before in
-    let ascents = rest.before.before.before.before in
-    bounds_then _ _ ascents.by-all-ascents.ensures c.by-programs.ensures
+    let left = c.before.before.before.before.before in
+    bounds_then _ _ left.before.before.certified.ensures c.certified2.ensures
 
 pub tighten_spec : {M : Type 1} → statement M
 tighten_spec =
     tie.close
     (tie.spec
-    row-count-requires
-    size-requires
-    fill-requires
-    by-all-ascents-requires
-    is-enough-requires
+    from-zero-requires
+    certified-requires
     returns
-    by-programs-requires
+    from-shares-requires
+    certified-requires-2
     returns_2)

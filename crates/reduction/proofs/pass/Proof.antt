@@ -5,7 +5,6 @@ use native.Mathlib.Omega.{arith}
 use Rattle.matrix.specs.Sets.{row_limit}
 use Rattle.matrix.proofs.Without.{size_fewer}
 use Rattle.reduction.proofs.Steps.{onward_kept}
-use Rattle.reduction.proofs.Ending.{round_ends}
 use Rattle.reduction.proofs.pass.Statement.{statement}
 use Rattle.reduction.proofs.pass.Tie as tie
 
@@ -18,19 +17,14 @@ drop-rows-requires c κs = search rules
 take-forced-requires : tie.Need-take-forced-requires
 take-forced-requires c κs =
     let dropped = c.before in
-    let start = dropped.before.before.before.before.before.before.before in
-    (start.requires.0, omega (arith, start.requires.1, size_fewer row_limit _ _ (dropped.drop-rows.ensures.keeps 0).fewer))
+    let start = dropped.before.before.before.before.before.before in
+    (start.requires.0, omega (arith, start.requires.1, size_fewer row_limit _ _ dropped.drop-rows.ensures.fewer))
 
 returns : tie.Need-returns
 returns c =
     let dropped = c.before.before in
-    let start = dropped.before.before.before.before.before.before.before in
-    let columns = dropped.before.before.drop_columns.ensures in
-    let rows = dropped.drop-rows.ensures in
-    record {
-      onward = onward_kept _ _ _ _ _ columns.dropped rows.keeps refl refl refl c.take-forced.ensures.onward;
-      ends = round_ends _ _ start.args.state _ _ c.take-forced.ensures columns rows;
-    }
+    let start = dropped.before.before.before.before.before.before in
+    onward_kept _ _ _ _ _ (dropped.before.drop_columns.ensures start.args.weights.now) dropped.drop-rows.ensures refl refl c.take-forced.ensures
 
 pub pass_spec : {M : Type 1} → statement M
 pass_spec =

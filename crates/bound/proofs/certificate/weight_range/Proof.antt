@@ -1,7 +1,5 @@
 -- `bound::certificate::weight_range` meets its contract. The invariant: the weights of the live rows before i lie in the range. Assumes nothing.
-use borrow.Author.Rules.{rules}
-use Prim.Native.Nat.{◌≤◌, ◌-◌}
-use native.Mathlib.Omega.{arith}
+use Rattle.std.proofs.Common.{◌-◌, ◌≤◌, arith, rules}
 use Rattle.matrix.proofs.Walks.{all_first, all_turn}
 use Rattle.bound.specs.Steps.{Ranges}
 use Rattle.bound.proofs.certificate.weight_range.Statement.{statement}

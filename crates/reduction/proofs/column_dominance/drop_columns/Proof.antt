@@ -1,16 +1,19 @@
--- `reduction::column_dominance::drop_columns` meets its contract. The invariant: each column dropped so far comes along with one that is kept, and no column
--- that is kept comes along with one before d. Assumes nothing.
+-- `reduction::column_dominance::drop_columns` meets its contract. The invariant: the columns kept are undecided ones, and dropping the others is a
+-- reduction, whatever the weights. Assumes nothing.
 use borrow.Author.Rules.{rules}
-use Prim.Native.Nat.{◌≤◌, ◌<◌, ◌-◌}
-use Rattle.matrix.specs.Sets.{column_limit, In}
-use Rattle.reduction.specs.Steps.{ColumnsDropped}
-use Rattle.reduction.proofs.Narrowing.{dropped_none, dropped_then, drop_along, Alone, alone_none, alone_more, alone_all}
+use mathlib.Core.List.{List}
+use Prim.Native.Nat.{ℕ, ◌≤◌, ◌<◌, ◌-◌}
+use Rattle.matrix.specs.Sets.{column_limit, has, In}
+use Rattle.numbers.proofs.Flags.{kept_of_lem}
+use Rattle.reduction.specs.Reduction.{Keeps}
+use Rattle.reduction.proofs.Narrowing.{drop_along}
+use Rattle.reduction.proofs.Steps.{keeps_all, keeps_then}
 use Rattle.reduction.proofs.column_dominance.drop_columns.Statement.{statement}
 use Rattle.reduction.proofs.column_dominance.drop_columns.Tie as tie
 
 abbrev invariant-loop : tie.invariant-loop
 invariant-loop words live undecided along kept₀ d₀ kept d =
-    (d ≤ column_limit) × (d < column_limit → In kept d) × ColumnsDropped words live undecided kept × Alone along kept d
+    (d ≤ column_limit) × (d < column_limit → In kept d) × ((x : ℕ) → In kept x → In undecided x) × ((weights : List ℕ) → Keeps words weights live undecided live kept)
 
 abbrev decreases-loop : tie.decreases-loop
 decreases-loop words live undecided along kept₀ d₀ kept d = column_limit - d
@@ -22,9 +25,7 @@ next-requires : tie.Need-next-requires invariant-loop decreases-loop
 next-requires c κs = search rules
 
 loop-holds : tie.Need-loop-init invariant-loop decreases-loop
-loop-holds c =
-    let start = c.before.before.before in
-    (search rules, c.next.ensures.here, dropped_none start.args.words.now _ _, alone_none _ _ c.next.ensures)
+loop-holds c = (search rules, c.next.ensures.here, λ x h. h, λ weights. keeps_all c.before.before.before.args.words.now weights _ _)
 
 mul-without : tie.Need-overflow-mul-without invariant-loop decreases-loop
 mul-without c = search rules
@@ -55,19 +56,18 @@ loop-again c =
     let head = c.before.before.before.before.before in
     let along = head.before.before in
     let words = along.before.before.args.words.now in
-    let spare = c.before.before.without in (
+    let spare = c.before.before.without in
+    let kept = c.before.without2.ensures in (
       search rules,
       c.next2.ensures.here,
-      dropped_then words _ _ _ _ head.loop.invariant.2
-          (drop_along words _ along.come-along.result _ _ _ _ _ _ along.come-along.ensures head.loop.invariant.2.sub
-          (head.loop.invariant.1 c.before.before.before.before.loop-test.true) c.before.before.before.only.ensures spare.ensures c.before.without2.ensures),
-      alone_more _ _ _ _ _ _ c.before.before.before.only.ensures spare.ensures c.before.without2.ensures c.next2.ensures head.loop.invariant.3,
+      λ x h. head.loop.invariant.2 x (kept_of_lem (has head.loop.auto x) (has spare.result x) (kept x) h).0,
+      λ weights. keeps_then words weights _ _ _ _ _ _ (head.loop.invariant.3 weights)
+          (drop_along words weights _ along.come-along.result _ _ _ _ _ _ along.come-along.ensures head.loop.invariant.2
+          (head.loop.invariant.1 c.before.before.before.before.loop-test.true) c.before.before.before.only.ensures spare.ensures kept),
     )
 
 returns : tie.Need-returns invariant-loop decreases-loop
-returns c =
-    let along = c.before.before.before in
-    alone_all _ _ _ _ _ along.before.before.ranges.undecided.fits c.loop-test.false along.come-along.ensures c.before.loop.invariant.2 c.before.loop.invariant.3
+returns c = c.before.loop.invariant.3
 
 pub drop_columns_spec : {M : Type 1} → statement M
 drop_columns_spec =

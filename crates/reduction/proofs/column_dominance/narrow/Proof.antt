@@ -1,15 +1,14 @@
 -- `reduction::column_dominance::narrow` meets its contract. The invariant: nothing was added, and the companions of each column of the set before c are cut
 -- down. Assumes nothing.
 use borrow.Author.Rules.{rules}
-use Prim.Native.Nat.{◌≤◌, ◌<◌, ◌-◌}
-use Rattle.numbers.proofs.Flags.{both_of}
-use Rattle.matrix.specs.Sets.{column_limit, has, In}
+use Prim.Native.Nat.{◌≤◌, ◌-◌}
+use Rattle.matrix.specs.Sets.{column_limit}
 use Rattle.reduction.proofs.Narrowing.{Cut, cut_none, cut_more, cut_all}
 use Rattle.reduction.proofs.column_dominance.narrow.Statement.{statement}
 use Rattle.reduction.proofs.column_dominance.narrow.Tie as tie
 
 abbrev invariant-loop : tie.invariant-loop
-invariant-loop along₀ row undecided set c₀ along c = (c ≤ column_limit) × (c < column_limit → In set c) × Cut along₀ row set c along
+invariant-loop along₀ row undecided set c₀ along c = (c ≤ column_limit) × Cut along₀ row set c along
 
 abbrev decreases-loop : tie.decreases-loop
 decreases-loop along₀ row undecided set c₀ along c = column_limit - c
@@ -21,7 +20,7 @@ next-requires : tie.Need-next-requires invariant-loop decreases-loop
 next-requires c κs = search rules
 
 loop-holds : tie.Need-loop-init invariant-loop decreases-loop
-loop-holds c = (search rules, c.next.ensures.here, cut_none c.next.ensures)
+loop-holds c = (search rules, cut_none c.next.ensures)
 
 mul-both : tie.Need-overflow-mul-both invariant-loop decreases-loop
 mul-both c = search rules
@@ -48,15 +47,10 @@ loop-less : tie.Need-loop-smaller invariant-loop decreases-loop
 loop-less c = search rules
 
 loop-again : tie.Need-loop-preserved invariant-loop decreases-loop
-loop-again c =
-    let head = c.before.before.before.before in
-    let both = head.before.before in
-    let a = both.before.args in
-    let in_row = (both_of (has a.row head.loop.c) (has a.undecided head.loop.c) (both.both.ensures head.loop.c) (head.loop.invariant.1 c.before.before.before.loop-test.true)).0 in
-    (search rules, c.next2.ensures.here, cut_more _ c.next2.ensures in_row c.before.both2.ensures head.loop.invariant.2)
+loop-again c = (search rules, cut_more _ c.next2.ensures c.before.both2.ensures c.before.before.before.before.loop.invariant.1)
 
 returns : tie.Need-returns invariant-loop decreases-loop
-returns c = cut_all c.before.before.before.both.ensures c.before.before.before.before.ranges.undecided.fits c.loop-test.false c.before.loop.invariant.2
+returns c = cut_all c.before.before.before.both.ensures c.before.before.before.before.ranges.undecided.fits c.loop-test.false c.before.loop.invariant.1
 
 pub narrow_spec : {M : Type 1} → statement M
 narrow_spec =

@@ -1,14 +1,13 @@
 -- `reduction::forced::covered_twice` meets its contract. The invariant: the columns of the live rows before i are counted. Assumes nothing.
 use borrow.Author.Rules.{rules}
-use Prim.Native.Nat.{◌≤◌, ◌<◌, ◌-◌}
+use Prim.Native.Nat.{◌≤◌, ◌-◌}
 use native.Mathlib.Omega.{arith}
-use Rattle.matrix.specs.Sets.{Member}
 use Rattle.reduction.proofs.Counting.{CoveredSoFar, covered_none, covered_more, covered_all}
 use Rattle.reduction.proofs.forced.covered_twice.Statement.{statement}
 use Rattle.reduction.proofs.forced.covered_twice.Tie as tie
 
 abbrev invariant-loop : tie.invariant-loop
-invariant-loop words live coverage₀ end i₀ coverage i = (i ≤ end) × (i < end → Member live i) × CoveredSoFar words live i coverage.once coverage.twice
+invariant-loop words live coverage₀ end i₀ coverage i = (i ≤ end) × CoveredSoFar words live i coverage.once coverage.twice
 
 abbrev decreases-loop : tie.decreases-loop
 decreases-loop words live coverage₀ end i₀ coverage i = end - i
@@ -20,7 +19,7 @@ next-requires : tie.Need-next-requires invariant-loop decreases-loop
 next-requires c κs = search rules
 
 loop-holds : tie.Need-loop-init invariant-loop decreases-loop
-loop-holds c = (search rules, c.next.ensures.here, covered_none _ _ c.next.ensures)
+loop-holds c = (search rules, covered_none _ _ c.next.ensures)
 
 covered-requires : tie.Need-covered-requires invariant-loop decreases-loop
 covered-requires c κs = search rules
@@ -41,14 +40,12 @@ loop-again : tie.Need-loop-preserved invariant-loop decreases-loop
 loop-again c =
     let row = c.before.before.covered.ensures in
     let more = c.before.with-word.ensures in
-    let head = c.before.before.before.before in
-    let lives = head.loop.invariant.1 c.before.before.before.loop-test.true in
-    (search rules, c.next2.ensures.here, covered_more _ _ c.next2.ensures lives (rw row at more.0) (rw row at more.1) head.loop.invariant.2)
+    (search rules, covered_more _ _ c.next2.ensures (rw row at more.0) (rw row at more.1) c.before.before.before.before.loop.invariant.1)
 
 returns : tie.Need-returns invariant-loop decreases-loop
 returns c =
     let a = c.before.before.before.before.before.args in
-    covered_all a.words.now a.live.now (omega arith) c.before.loop.invariant.2
+    covered_all a.words.now a.live.now (omega arith) c.before.loop.invariant.1
 
 pub covered_twice_spec : {M : Type 1} → statement M
 covered_twice_spec =

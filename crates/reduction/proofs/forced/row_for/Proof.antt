@@ -1,19 +1,14 @@
--- `reduction::forced::row_for` meets its contract: where it stops, the row is live and covers the column. The invariant: no live row before i does. Assumes
--- nothing.
+-- `reduction::forced::row_for` meets its contract: where it stops, the row is live and covers the column. Assumes nothing.
 use borrow.Author.Rules.{rules}
 use mathlib.Core.Path.{sym, ◌∙◌}
-use Prim.Native.Nat.{ℕ, ◌≤◌, ◌<◌, ◌-◌}
+use Prim.Native.Nat.{◌≤◌, ◌<◌, ◌-◌}
 use native.Mathlib.Omega.{arith}
-use Rattle.numbers.proofs.Flags.{clash}
 use Rattle.matrix.specs.Sets.{Member}
-use Rattle.matrix.specs.Matrix.{CoversColumn}
-use Rattle.matrix.proofs.Walks.{all_first, all_turn}
-use Rattle.matrix.proofs.Without.{each_row_lem}
 use Rattle.reduction.proofs.forced.row_for.Statement.{statement}
 use Rattle.reduction.proofs.forced.row_for.Tie as tie
 
 abbrev invariant-loop : tie.invariant-loop
-invariant-loop words live c end i₀ i = (i ≤ end) × (i < end → Member live i) × ((j : ℕ) → j < i → Member live j → CoversColumn words j c → ⊥)
+invariant-loop words live c end i₀ i = (i ≤ end) × (i < end → Member live i)
 
 abbrev decreases-loop : tie.decreases-loop
 decreases-loop words live c end i₀ i = end - i
@@ -25,7 +20,7 @@ next-requires : tie.Need-next-requires invariant-loop decreases-loop
 next-requires c κs = search rules
 
 loop-holds : tie.Need-loop-init invariant-loop decreases-loop
-loop-holds c = (search rules, c.next.ensures.here, all_first _ _ c.next.ensures)
+loop-holds c = (search rules, c.next.ensures.here)
 
 covered-requires : tie.Need-covered-requires invariant-loop decreases-loop
 covered-requires c κs = search rules
@@ -36,7 +31,7 @@ has-requires c κs = search rules
 returns : tie.Need-returns invariant-loop decreases-loop
 returns c =
     let covers = rw c.before.before.covered.ensures at (sym c.before.has.ensures ∙ c.if1.true) in
-    record { within = search rules; here = λ l. (c.before.before.before.before.loop.invariant.1 c.before.before.before.loop-test.true, CoversColumn); none = λ l. absurd (omega arith) }
+    record { within = search rules; here = λ l. (c.before.before.before.before.loop.invariant.1 c.before.before.before.loop-test.true, covers) }
 
 add-next : tie.Need-overflow-add-next invariant-loop decreases-loop
 add-next c = search rules
@@ -48,19 +43,10 @@ loop-less : tie.Need-loop-smaller invariant-loop decreases-loop
 loop-less c = search rules
 
 loop-again : tie.Need-loop-preserved invariant-loop decreases-loop
-loop-again c =
-    let head = c.before.before.before.before.before in
-    let lacks = rw c.before.before.before.covered.ensures at (sym c.before.before.has.ensures ∙ c.before.if1.false) in
-    (search rules, c.next2.ensures.here, all_turn _ _ head.loop.i head.loop.invariant.2 (λ k. clash k lacks) c.next2.ensures)
+loop-again c = (search rules, c.next2.ensures.here)
 
 returns_2 : tie.Need-returns-2 invariant-loop decreases-loop
-returns_2 c =
-    let a = c.before.before.before.before.before.args in
-    record {
-      within = search rules;
-      here = λ l. absurd (omega arith);
-      none = λ l i m k. each_row_lem a.words.now (λ i. Member a.live.now i → ⊥) a.c c.before.loop.i (omega arith) (λ i b k m. c.before.loop.invariant.2 i b m k) i k m;
-    }
+returns_2 c = record { within = search rules; here = λ l. absurd (omega arith) }
 
 pub row_for_spec : {M : Type 1} → statement M
 row_for_spec =

@@ -1,13 +1,10 @@
--- `reduction::forced::take` meets its contract: the column is decided already, or it has no row, or its row is the only one and is taken, and then a
--- row less is left. Assumes nothing.
+-- `reduction::forced::take` meets its contract: the column is decided already, or it has no row, or its row is the only one and is taken. Assumes nothing.
 use borrow.Author.Rules.{rules}
-use mathlib.Core.Path.{refl, sym, ◌∙◌}
+use mathlib.Core.Path.{sym, ◌∙◌}
 use Prim.Native.Nat.{◌<◌}
 use native.Mathlib.Omega.{arith}
-use borrow.Author.Tests.{not-true, not-false}
-use Rattle.numbers.proofs.Flags.{clash}
+use borrow.Author.Tests.{not-false}
 use Rattle.matrix.specs.Matrix.{row_count}
-use Rattle.matrix.proofs.Without.{left_size}
 use Rattle.reduction.proofs.Steps.{onward_none, onward_taken}
 use Rattle.reduction.proofs.forced.take.Statement.{statement}
 use Rattle.reduction.proofs.forced.take.Tie as tie
@@ -16,10 +13,7 @@ has-requires : tie.Need-has-requires
 has-requires c κs = search rules
 
 returns : tie.Need-returns
-returns c =
-    let start = c.before.before.before.before in
-    let decided = sym c.before.has.ensures ∙ not-true _ c.if1.true in
-    record { onward = onward_none _ _ _ start.requires.room; same = λ l. refl; none = λ l u. clash u decided }
+returns c = onward_none _ _ _ c.before.before.before.before.requires.room
 
 row-for-requires : tie.Need-row-for-requires
 row-for-requires c κs = search rules
@@ -29,9 +23,8 @@ row-count-requires c κs = search rules
 
 returns_2 : tie.Need-returns-2
 returns_2 c =
-    let found = c.before.before in
-    let start = found.before.before.before.before.before.before.before in
-    record { onward = onward_none _ _ _ start.requires.room; same = λ l. refl; none = λ l u. found.row_for_lem.ensures.none (omega (arith, c.before.row_count.ensures, c.if2.true)) }
+    let test = c.before.before.before.before.before in
+    onward_none _ _ _ test.before.before.before.before.requires.room
 
 take-row-requires : tie.Need-take-row-requires
 take-row-requires c κs =
@@ -48,12 +41,7 @@ returns-3 c =
     let start = test.before.before.before.before in
     let l : c.before.before.before.row_for_lem.result < row_count start.args.words.now = omega (arith, f.within, c.before.before.row_count.ensures, c.before.if2.false) in
     let undecided = sym test.before.has.ensures ∙ not-false _ test.if1.false in
-    let less = left_size _ _ _ c.take_row.ensures.live (row_count start.args.words.now) l (f.here l).0 in
-    record {
-      onward = onward_taken _ _ _ _ _ _ start.requires.one undecided (omega (arith, start.requires.sizes)) (f.here l).0 (f.here l).1 c.take_row.ensures;
-      same = λ k. absurd (omega arith);
-      none = λ k. absurd (omega arith);
-    }
+    onward_taken _ _ _ _ _ _ start.requires.one undecided (omega (arith, start.requires.sizes)) (f.here l).0 (f.here l).1 c.take_row.ensures
 
 pub take_spec : {M : Type 1} → statement M
 take_spec =

@@ -1,17 +1,16 @@
--- `reduction::forced::take_forced` meets its contract. The invariant: the state was reached by taking rows, or nothing has changed and no column of the set
--- before c has a row. A column of the set has one row, of which there are no more than at the start. Assumes nothing.
+-- `reduction::forced::take_forced` meets its contract. The invariant: the state was reached by taking rows. A column of the set has one row, of which there
+-- are no more than at the start. Assumes nothing.
 use borrow.Author.Rules.{rules}
 use Prim.Native.Nat.{◌≤◌, ◌<◌, ◌-◌}
-use native.Mathlib.Omega.{arith}
 use Rattle.numbers.proofs.Flags.{not_set, kept_of_lem}
 use Rattle.matrix.specs.Sets.{column_limit, has, In}
-use Rattle.reduction.proofs.Counting.{ForcedSoFar, forced_none, forced_more, forced_all}
+use Rattle.reduction.specs.Steps.{Onward}
 use Rattle.reduction.proofs.Steps.{onward_none, onward_then}
 use Rattle.reduction.proofs.forced.take_forced.Statement.{statement}
 use Rattle.reduction.proofs.forced.take_forced.Tie as tie
 
 abbrev invariant-loop : tie.invariant-loop
-invariant-loop words weights undecided single rest₀ c₀ rest c = (c ≤ column_limit) × (c < column_limit → In single c) × ForcedSoFar words weights rest₀ single c rest
+invariant-loop words weights undecided single rest₀ c₀ rest c = (c ≤ column_limit) × (c < column_limit → In single c) × Onward words weights rest₀ rest
 
 abbrev decreases-loop : tie.decreases-loop
 decreases-loop words weights undecided single rest₀ c₀ rest c = column_limit - c
@@ -28,16 +27,16 @@ next-requires c κs = search rules
 loop-holds : tie.Need-loop-init invariant-loop decreases-loop
 loop-holds c =
     let twice = c.before.before in
-    (search rules, c.next.ensures.here, forced_none _ _ _ _ c.next.ensures (onward_none _ _ _ twice.before.before.before.before.before.requires.1))
+    (search rules, c.next.ensures.here, onward_none _ _ _ twice.before.before.before.before.before.requires.1)
 
 take-requires : tie.Need-take-requires invariant-loop decreases-loop
 take-requires c κs =
     let l = c.before.loop in
     let twice = c.before.before.before.before in
     let start = twice.before.before.before.before.before in
-    let o = l.invariant.2.onward in
+    let o = l.invariant.2 in
     let kept = kept_of_lem (has start.args.state.undecided l.c) _ (c.before.before.before.without.ensures l.c) (l.invariant.1 c.loop-test.true) in
-    let once = twice.covered-twice.ensures.one l.c (not_set (has twice.covered-twice.result l.c) kept.1) in
+    let once = twice.covered-twice.ensures l.c (not_set (has twice.covered-twice.result l.c) kept.1) in
     record { sizes = start.requires.0; column = c.loop-test.true; one = λ i j m n. once i j (o.fewer i m) (o.fewer j n); room = o.room }
 
 add-next : tie.Need-overflow-add-next invariant-loop decreases-loop
@@ -50,21 +49,10 @@ loop-less : tie.Need-loop-smaller invariant-loop decreases-loop
 loop-less c = search rules
 
 loop-again : tie.Need-loop-preserved invariant-loop decreases-loop
-loop-again c =
-    let head = c.before.before.before in
-    let l = head.loop in
-    let h = l.invariant.2 in
-    let without = head.before.before in
-    let start = without.before.before.before.before.before.before in
-    let kept = kept_of_lem (has start.args.state.undecided l.c) (has without.before.covered-twice.result l.c) (without.without.ensures l.c) (l.invariant.1 c.before.before.loop-test.true) in
-    let took = c.before.take.ensures in
-    (search rules, c.next2.ensures.here, forced_more _ _ _ _ _ _ c.next2.ensures kept.0 (onward_then _ _ _ _ _ h.onward took.onward) h took)
+loop-again c = (search rules, c.next2.ensures.here, onward_then _ _ _ _ _ c.before.before.before.loop.invariant.2 c.before.take.ensures)
 
 returns : tie.Need-returns invariant-loop decreases-loop
-returns c =
-    let without = c.before.before.before in
-    let twice = without.before in
-    forced_all _ _ _ _ _ _ without.without.ensures (omega (arith, without.without.type-inv)) c.loop-test.false twice.covered-twice.ensures c.before.loop.invariant.2
+returns c = c.before.loop.invariant.2
 
 pub take_forced_spec : {M : Type 1} → statement M
 take_forced_spec =

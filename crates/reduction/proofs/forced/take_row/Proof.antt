@@ -26,21 +26,16 @@ weight-requires c κs = search rules
 add-t13 : tie.Need-overflow-add-t13
 add-t13 c = search rules
 
-one-less-requires : tie.Need-one-less-requires
-one-less-requires c κs = search rules
-
 returns : tie.Need-returns
 returns c =
-    let weighed = c.before.before in
-    let fewer = weighed.before.before.before.before in
+    let fewer = c.before.before.before.before.before in
     let start = fewer.before.before.before.before.before in
-    let w = weighed.weight.ensures in
+    let w = c.before.weight.ensures in
     record {
       live = fewer.without-row.ensures;
-      undecided = rw weighed.before.before.before.covered.ensures at weighed.before.before.without.ensures;
-      taken = weighed.before.with_row.ensures;
+      undecided = rw c.before.before.before.before.covered.ensures at c.before.before.before.without.ensures;
+      taken = c.before.before.with_row.ensures;
       cost = ap (λ (x : ℕ). start.args.state.cost + x) w.0;
-      need = c.one_less.ensures;
       room = omega (arith, start.requires, w.1, left_size _ _ _ fewer.without-row.ensures row_limit (omega (arith, start.requires)) start.requires.lives);
     }
 
@@ -54,5 +49,4 @@ take_row_spec =
     with-row-requires
     weight-requires
     add-t13
-    one-less-requires
     returns)

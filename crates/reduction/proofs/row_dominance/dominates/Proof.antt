@@ -1,11 +1,9 @@
--- `reduction::row_dominance::dominates` meets its contract: each test gives one field, and where it fails the field is false. Assumes nothing.
+-- `reduction::row_dominance::dominates` meets its contract: each test gives one field. Assumes nothing.
 use borrow.Author.Rules.{rules}
 use mathlib.Core.Path.{refl, sym, ◌∙◌}
 use native.Mathlib.Omega.{arith}
-use borrow.Author.Tests.{not-true, not-false}
-use Rattle.numbers.proofs.Flags.{clash, both_of, of_both}
-use Rattle.matrix.specs.Sets.{has}
-use Rattle.matrix.specs.Matrix.{covered}
+use borrow.Author.Tests.{not-false}
+use Rattle.numbers.proofs.Flags.{clash, of_both}
 use Rattle.reduction.proofs.row_dominance.dominates.Statement.{statement}
 use Rattle.reduction.proofs.row_dominance.dominates.Tie as tie
 
@@ -22,17 +20,10 @@ inside-requires : tie.Need-inside-requires
 inside-requires c κs = search rules
 
 returns : tie.Need-returns
-returns c =
-    let tested = c.before in
-    let sets = tested.before in
-    let a = sets.before.before.before.before.before.args in
-    let lacks = rw sets.covered2.ensures at (tested.inside.ensures.some (not-true _ c.if1.true)) in
-    let both = rw sets.before.before.covered.ensures at sets.before.both.ensures in
-    let in_both = both_of (has (covered a.words.now a.i) lacks.0) (has a.undecided lacks.0) (both lacks.0) lacks.1 in
-    record { yes = λ e. clash e refl; no = λ e d. lacks.2 (d.inside lacks.0 in_both.1 in_both.0) }
+returns c = λ e. clash e refl
 
 returns_2 : tie.Need-returns-2
-returns_2 c = record { yes = λ e. clash e refl; no = λ e d. d.other c.if2.true }
+returns_2 c = λ e. clash e refl
 
 mul-if3 : tie.Need-overflow-mul-if3
 mul-if3 c = search rules
@@ -47,7 +38,7 @@ shared-slice-read-if3-2 : tie.Need-shared-slice-read-if3-2
 shared-slice-read-if3-2 c = search rules
 
 returns-3 : tie.Need-returns-3
-returns-3 c = record { yes = λ e. clash e refl; no = λ e d. omega (arith, d.light, c.if3.true) }
+returns-3 c = λ e. clash e refl
 
 has-requires : tie.Need-has-requires
 has-requires c κs = search rules
@@ -58,14 +49,11 @@ returns-4 c =
     let sets = test.before.before in
     let within = rw sets.covered2.ensures at (test.before.inside.ensures.all (not-false _ test.if1.false)) in
     let both = rw sets.before.before.covered.ensures at sets.before.both.ensures in
-    record {
-      yes = λ e. record {
-        other = c.before.before.before.before.if2.false;
-        lives = sym c.has.ensures ∙ e;
-        light = omega (arith, c.before.if3.false);
-        inside = λ x h k. within x (of_both (both x) k h);
-      };
-      no = λ e d. clash d.lives (sym c.has.ensures ∙ e);
+    λ e. record {
+      other = c.before.before.before.before.if2.false;
+      lives = sym c.has.ensures ∙ e;
+      light = omega (arith, c.before.if3.false);
+      inside = λ x h k. within x (of_both (both x) k h);
     }
 
 pub dominates_spec : {M : Type 1} → statement M

@@ -1,19 +1,13 @@
--- `reduction::row_dominance::drop_rows` meets its contract. The invariant: what was dropped so far is a reduction, and each row before i that is kept is
--- to stay. Assumes nothing.
+-- `reduction::row_dominance::drop_rows` meets its contract. The invariant: what was dropped so far is a reduction. Assumes nothing.
 use borrow.Author.Rules.{rules}
-use Prim.Native.Nat.{ℕ, ◌≤◌, ◌<◌, ◌-◌}
-use native.Mathlib.Omega.{arith}
-use Rattle.matrix.specs.Sets.{Member}
-use Rattle.matrix.proofs.Walks.{all_first}
+use Prim.Native.Nat.{◌≤◌, ◌-◌}
 use Rattle.reduction.specs.Reduction.{Keeps}
-use Rattle.reduction.specs.Steps.{Stays}
-use Rattle.reduction.proofs.Judging.{stay_turn}
 use Rattle.reduction.proofs.Steps.{keeps_all, keeps_then}
 use Rattle.reduction.proofs.row_dominance.drop_rows.Statement.{statement}
 use Rattle.reduction.proofs.row_dominance.drop_rows.Tie as tie
 
 abbrev invariant-loop : tie.invariant-loop
-invariant-loop words weights undecided by-column kept₀ end i₀ kept i = (i ≤ end) × ((limit : ℕ) → Keeps words weights limit kept₀ undecided kept undecided) × ((j : ℕ) → j < i → Member kept j → Stays words weights kept undecided j)
+invariant-loop words weights undecided by-column kept₀ end i₀ kept i = (i ≤ end) × Keeps words weights kept₀ undecided kept undecided
 
 abbrev decreases-loop : tie.decreases-loop
 decreases-loop words weights undecided by-column kept₀ end i₀ kept i = end - i
@@ -30,15 +24,11 @@ next-requires c κs = search rules
 loop-holds : tie.Need-loop-init invariant-loop decreases-loop
 loop-holds c =
     let filled = c.before.before.before in
-    let start = filled.before.before.before.before.before in
-    (search rules, λ limit. keeps_all start.args.words.now start.args.weights.now limit _ _, all_first _ _ c.next.ensures)
+    let start = filled.before.before.before.before in
+    (search rules, keeps_all start.args.words.now start.args.weights.now _ _)
 
 drop-row-requires : tie.Need-drop-row-requires invariant-loop decreases-loop
-drop-row-requires c κs =
-    let head = c.before.before in
-    let filled = head.before.before.before.before in
-    let start = filled.before.before.before.before.before in
-    record { sizes = start.requires; row = search rules; noted = λ j l m. filled.fill.ensures j l ((head.loop.invariant.1 0).fewer j m) }
+drop-row-requires c κs = search rules
 
 add-next : tie.Need-overflow-add-next invariant-loop decreases-loop
 add-next c = search rules
@@ -53,17 +43,11 @@ loop-again : tie.Need-loop-preserved invariant-loop decreases-loop
 loop-again c =
     let head = c.before.before.before.before.before in
     let filled = head.before.before.before.before in
-    let start = filled.before.before.before.before.before in
-    let judged = c.before.before.drop_row.ensures in (
-      search rules,
-      λ limit. keeps_then start.args.words.now start.args.weights.now limit _ _ _ _ _ _ (head.loop.invariant.1 limit) (judged.keeps limit),
-      stay_turn start.args.words.now start.args.weights.now _ _ _ _ c.next2.ensures judged head.loop.invariant.2,
-    )
+    let start = filled.before.before.before.before in
+    (search rules, keeps_then start.args.words.now start.args.weights.now _ _ _ _ _ _ head.loop.invariant.1 c.before.before.drop_row.ensures)
 
 returns : tie.Need-returns invariant-loop decreases-loop
-returns c =
-    let l = c.before.loop in
-    record { keeps = l.invariant.1; stay = λ i m. l.invariant.2 i (omega arith) }
+returns c = c.before.loop.invariant.1
 
 pub drop_rows_spec : {M : Type 1} → statement M
 drop_rows_spec =
