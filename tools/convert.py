@@ -277,7 +277,7 @@ def main(crates):
         log = []
         if not os.path.exists(old):
             shutil.copytree(src, os.path.join(old, 'proofs'))
-        gen = '/tmp/names-' + crate
+        gen = os.path.join(OLD, 'names', crate)
         if not os.path.exists(gen + '/names.json'):
             check(crate, ['--generated', gen, '--old-names'])
         names = json.load(open(gen + '/names.json'))
@@ -292,13 +292,13 @@ def main(crates):
             convert_fn(crate, p, names, None, log)
         log.clear()
         out = check(crate)
-        open('/tmp/pass1-%s.log' % crate, 'w').write(out)
+        open(os.path.join(OLD, 'pass1-%s.log' % crate), 'w').write(out)
         og = open_of(out)
         for p in sorted(olds):
             if '/+' in p: log.append('cycle by hand: ' + p); continue
             convert_fn(crate, p, names, og, log)
         out = check(crate, ['--allow-holes'])
-        open('/tmp/pass2-%s.log' % crate, 'w').write(out)
+        open(os.path.join(OLD, 'pass2-%s.log' % crate), 'w').write(out)
         print('\n'.join(log))
         print(crate, 'open after pass 1:', {k: v for k, v in og.items()})
         for l in out.split('\n'):
