@@ -201,7 +201,12 @@ def convert_fn(crate, path, names, open_goals, log):
                     l = re.sub(r"^%s (\S+)( κs)?(?= |$)" % re.escape(name), lambda x: '%s %s' % (new, x.group(1)), l)
                 o.append(l)
             comment = [l for l in b if l.startswith('--')]
-            ans.append('\n'.join(comment + [fix_paths('\n'.join(o), labels, places)]))
+            done = fix_paths('\n'.join(o), labels, places)
+            while True:
+                mm = re.search(r"let (\w+) = c in\s*", done)
+                if not mm: break
+                done = done[:mm.start()] + re.sub(r"(?<![\w.'-])%s(?=[.])" % mm.group(1), 'c', done[mm.end():])
+            ans.append('\n'.join(comment + [done]))
             continue
         helpers.append(fix_paths(body, labels, places))
     os.makedirs(dst, exist_ok=True)

@@ -4,14 +4,12 @@ use mathlib.Core.Bool.{true, false}
 use mathlib.Core.List.{List, [], ◌∷◌}
 use Prim.Native.Nat.{ℕ}
 use lib.ListN.{length}
-use borrow.Author.Rules.{rules}
 use Rattle.cube.specs.Words.{rows_of}
 use Rattle.cube.specs.Calls.{unequal_lengths, too_many_rows, Condition, when, first_of}
 use Rattle.cube.proofs.Calls.{first_holds, first_passes, equal_lengths}
 use Rattle.cube.proofs.Lists.{rows_length}
 use Rattle.lists.specs.Steps.{length_conditions}
-use Rattle.lists.proofs.length_refusal.Statement.{statement}
-use Rattle.lists.proofs.length_refusal.Tie as tie
+use Rattle.lists.proofs.length_refusal.Goals as goal
 
 module _ (vs ws : List ℕ) where
   abbrev count_left : List Condition
@@ -34,29 +32,10 @@ module _ (vs ws : List ℕ) where
     few : too_many_rows (length vs) ≡ false → 0 ≡ first_of (length_conditions vs ws)
     few h = sym (left ∙ first_passes (too_many_rows (length (rows_of vs ws))) 6 [] (counted ∙ h))
 
-unequal-lengths-requires : tie.Need-unequal-lengths-requires
-unequal-lengths-requires c κs = search rules
+pub returns-then-too_many_rows : goal.returns-then-too_many_rows
+returns-then-too_many_rows c =
+    many c.args.values.now c.args.cares.now (sym c.unequal_lengths.ensures ∙ c.if-unequal_lengths.false) (sym c.too_many_rows.ensures ∙ c.if-too_many_rows.true)
 
-returns : tie.Need-returns
+pub returns : goal.returns
 returns c =
-    let s = c.before.before.before.before in
-    unequal s.args.values.now s.args.cares.now (sym c.before.unequal-lengths.ensures ∙ c.if1.true)
-
-too-many-rows-requires : tie.Need-too-many-rows-requires
-too-many-rows-requires c κs = search rules
-
-equal_at : (c : tie.Else1) → unequal_lengths c.before.before.before.before.args.values.now c.before.before.before.before.args.cares.now ≡ false
-equal_at c = sym c.before.unequal-lengths.ensures ∙ c.if1.false
-
-returns_2 : tie.Need-returns-2
-returns_2 c =
-    let s = c.before.before.before.before.before.before in
-    many s.args.values.now s.args.cares.now (equal_at c.before.before) (sym c.before.too_many_rows.ensures ∙ c.if2.true)
-
-returns-3 : tie.Need-returns-3
-returns-3 c =
-    let s = c.before.before.before.before.before.before in
-    few s.args.values.now s.args.cares.now (equal_at c.before.before) (sym c.before.too_many_rows.ensures ∙ c.if2.false)
-
-pub length_refusal_spec : {M : Type 1} → statement M
-length_refusal_spec = tie.close (tie.spec unequal-lengths-requires returns too-many-rows-requires returns_2 returns-3)
+    few c.args.values.now c.args.cares.now (sym c.unequal_lengths.ensures ∙ c.if-unequal_lengths.false) (sym c.too_many_rows.ensures ∙ c.if-too_many_rows.false)

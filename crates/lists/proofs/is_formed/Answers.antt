@@ -4,11 +4,9 @@ use mathlib.Core.Bool.{Bool, false, ◌&&◌}
 use Prim.Native.Nat.{ℕ, ◌^◌, ◌<◌, ◌≤◌}
 use lib.Bits.{bit_and}
 use lib.Dec.{eqb}
-use borrow.Author.Rules.{rules}
 use borrow.Author.Tests.{lt-ltb, le-ltb}
 use Rattle.cube.specs.Words.{formed}
-use Rattle.lists.proofs.is_formed.Statement.{statement}
-use Rattle.lists.proofs.is_formed.Tie as tie
+use Rattle.lists.proofs.is_formed.Goals as goal
 
 module _ (n v w m : ℕ) (m_is : m ≡ 2 ^ n) where
   outside : m ≤ w → false ≡ formed n (record { value = v; care = w })
@@ -19,14 +17,8 @@ module _ (n v w m : ℕ) (m_is : m ≡ 2 ^ n) where
   unfolding formed
   inside h = sym (ap (λ (b : Bool). b && eqb (bit_and v w) v) (lt-ltb w (2 ^ n) (subst (λ (i : ℕ). w < i) m_is h)))
 
-codes-requires : tie.Need-codes-requires
-codes-requires c κs = search rules
+pub returns-then-codes-care : goal.returns-then-codes-care
+returns-then-codes-care c = outside _ c.args.value _ _ c.codes.ensures c.if-codes-care.true
 
-returns : tie.Need-returns
-returns c = outside _ c.before.before.args.value _ _ c.before.codes.ensures c.if1.true
-
-returns_2 : tie.Need-returns-2
-returns_2 c = inside _ _ _ _ c.before.codes.ensures c.if1.false
-
-pub is_formed_spec : {M : Type 1} → statement M
-is_formed_spec = tie.close (tie.spec codes-requires returns returns_2)
+pub returns : goal.returns
+returns c = inside _ _ _ _ c.codes.ensures c.if-codes-care.false
