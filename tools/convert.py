@@ -205,7 +205,7 @@ def convert_fn(crate, path, names, open_goals, log):
             while True:
                 mm = re.search(r"let (\w+) = c in\s*", done)
                 if not mm: break
-                done = done[:mm.start()] + re.sub(r"(?<![\w.'-])%s(?=[.])" % mm.group(1), 'c', done[mm.end():])
+                done = done[:mm.start()] + re.sub(r"(?<![\w.'-])%s(?![\w'-])" % mm.group(1), 'c', done[mm.end():])
             ans.append('\n'.join(comment + [done]))
             continue
         helpers.append(fix_paths(body, labels, places))

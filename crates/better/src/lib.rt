@@ -60,8 +60,8 @@ fn copy_rows(rows: usize, vs: &[u8], ws: &[u8], values: &mut [u8], cares: &mut [
     ensures values_after { values.new ≡ written 0 (take rows vs.now) values.old }
     ensures cares_after { cares.new ≡ written 0 (take rows ws.now) cares.old }
 {
-    bytes::copy(&vs[..rows], values);
-    bytes::copy(&ws[..rows], cares);
+    values[..rows].copy_from_slice(&vs[..rows]);
+    cares[..rows].copy_from_slice(&ws[..rows]);
 }
 
 // Builds both shortest lists for a table, and writes the better into the first places of both arrays, ascending by cube number. Answers which it is and

@@ -69,8 +69,8 @@ fn put_file(n: usize, values: &[u8], cares: &[u8], out: &mut [u8])
     let behind = HEADER + rows;
     let end = behind + rows;
     put_header(n as u8, rows as u8, out);
-    bytes::copy(values, &mut out[HEADER..behind]);
-    bytes::copy(cares, &mut out[behind..end]);
+    out[HEADER..behind].copy_from_slice(values);
+    out[behind..end].copy_from_slice(cares);
 }
 
 // Writes the list file of a list into the first bytes of a buffer. Answers its length, or the number of the refusal.
@@ -139,8 +139,8 @@ fn copy_rows(file: &[u8], values: &mut [u8], cares: &mut [u8])
     let count = count_in(file);
     let behind = HEADER + count;
     let end = behind + count;
-    bytes::copy(&file[HEADER..behind], values);
-    bytes::copy(&file[behind..end], cares);
+    values[..count].copy_from_slice(&file[HEADER..behind]);
+    cares[..count].copy_from_slice(&file[behind..end]);
 }
 
 // Reads a list file into the first places of both arrays. Answers width and count, or the number of the refusal.

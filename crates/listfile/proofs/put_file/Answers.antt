@@ -11,8 +11,7 @@ use borrow.Rule.Slice.PartMut.{mid_of, put_mid}
 use Rattle.numbers.proofs.Lent.{sets_append, put_copied}
 use Rattle.listfile.specs.File.{one_byte_count, file_of}
 use Rattle.listfile.specs.Steps.{Writable}
-use Rattle.listfile.proofs.put_file.Statement.{statement}
-use Rattle.listfile.proofs.put_file.Tie as tie
+use Rattle.listfile.proofs.put_file.Goals as goal
 
 -- where the cares begin, and where the file ends
 abbrev behind : List ℕ → ℕ
@@ -41,60 +40,11 @@ module _ (n : ℕ) (vs ws old : List ℕ) (f : Writable n vs ws old) where
       put_copied (behind vs) (end vs) valued ws part (omega (arith, f.equal)) (omega (arith, f.room, ap length valued-is ∙ length-sets old 0 all)) copied
       ∙ ap (λ (l : List ℕ). sets l (behind vs) ws) valued-is ∙ ap (λ (i : ℕ). sets (sets old 0 all) i ws) at ∙ sets_append old 0 all ws
 
-add-behind : tie.Need-overflow-add-behind
-add-behind c = search rules
-
-add-end : tie.Need-overflow-add-end
-add-end c = search rules
-
-cast-put-header : tie.Need-overflow-cast-put-header
-cast-put-header c = search rules
-
-cast-put-header-2 : tie.Need-overflow-cast-put-header-2
-cast-put-header-2 c = search rules
-
-put-header-requires : tie.Need-put-header-requires
-put-header-requires c κs = search rules
-
-sub-copy : tie.Need-overflow-sub-copy
-sub-copy c = search rules
-
-part-copy-start : tie.Need-slice-bounds-copy-start
-part-copy-start c = search rules
-
-part-copy-end : tie.Need-slice-bounds-copy-end
-part-copy-end c = search rules
-
-copy-requires : tie.Need-copy-requires
-copy-requires c κs = search rules
-
-sub-copy-2 : tie.Need-overflow-sub-copy-2
-sub-copy-2 c = search rules
-
-part-copy-start-2 : tie.Need-slice-bounds-copy-start-2
-part-copy-start-2 c = search rules
-
-part-copy-end-2 : tie.Need-slice-bounds-copy-end-2
-part-copy-end-2 c = search rules
-
-copy-requires-2 : tie.Need-copy-requires-2
-copy-requires-2 c κs = search rules
-
-same_length : tie.Need-same-length
-same_length c = search rules
-
-returns : tie.Need-returns
+pub returns : goal.returns
 returns c =
-    let s = c.before.before.before.before.before.before.before.before.before.before.before.before.before.before.before in
-    let head = c.before.before.before.before.before.before.before.before.before.before.put-header in
-    let first = c.before.before.before.before.before.before.copy in
-    let second = c.before.before.copy2 in
-    with_cares s.args.n s.args.values.now s.args.cares.now s.args.out.now s.requires _ second.new.1.0
-    (with_values s.args.n s.args.values.now s.args.cares.now s.args.out.now s.requires head.new.1.1.0 first.new.1.0 head.ensures first.ensures.1)
+    let head = c.put_header in
+    let first = c.copy in
+    let second = c.copy2 in
+    with_cares c.args.n c.args.values.now c.args.cares.now c.args.out-1.now c.requires _ second.new.1.0
+    (with_values c.args.n c.args.values.now c.args.cares.now c.args.out-1.now c.requires head.new.1.1.0 first.new.1.0 head.ensures first.ensures.1)
     second.ensures.1
-
-pub put_file_spec : {M : Type 1} → statement M
-put_file_spec =
-    tie.close
-    (tie.spec add-behind add-end cast-put-header cast-put-header-2 put-header-requires sub-copy part-copy-start part-copy-end copy-requires sub-copy-2
-    part-copy-start-2 part-copy-end-2 copy-requires-2 same_length returns)

@@ -18,8 +18,8 @@ use Rattle.listfile.specs.File.{one_byte_count, file_length, file_of}
 use Rattle.listfile.specs.Write.{write_refuses, Writes}
 use Rattle.listfile.specs.Steps.{Writable}
 use Rattle.listfile.proofs.Theorems.{file_length_lem}
-use Rattle.listfile.proofs.write.Statement.{statement}
 use Rattle.listfile.proofs.write.Tie as tie
+use Rattle.listfile.proofs.write.Goals as goal
 
 module _ (n : ℕ) (vs ws old : List ℕ) where
   abbrev Ends : List ℕ → Counted → Type 0
@@ -72,58 +72,29 @@ module _ (n : ℕ) (vs ws old : List ℕ) where
               (left ∙ first_passes (short (length old) (file_length one_byte_count (length (rows_of vs ws)))) 4 [] (le-ltb _ _ (subst (λ (i : ℕ). i ≤ length old) needed h)))
               (record { behind = long ∙ sym (zero-add (length (file_of one_byte_count n vs ws))); places = New-is }) (subst (λ (i : ℕ). i ≤ length old) long h)
 
-good_at : (c : tie.Else1) → bad_width c.before.before.before.before.before.args.n ≡ false
-good_at c = sym c.before.bad-width.ensures ∙ c.if1.false
+good_at : (c : tie.Else-bad_width) → bad_width c.args.n ≡ false
+good_at c = sym c.bad_width.ensures ∙ c.if-bad_width.false
 
-listed_at : (c : tie.Else2)
-    → (let s = c.before.before.before.before.before.before.before in first_of (list_conditions s.args.n s.args.values.now s.args.cares.now) ≡ 0)
-listed_at c = sym c.before.list-refusal.ensures ∙ c.if2.false
+listed_at : (c : tie.Else-k-ne0)
+    → (let s = c in first_of (list_conditions s.args.n s.args.values.now s.args.cares.now) ≡ 0)
+listed_at c = sym c.list_refusal-k.ensures ∙ c.if-k-ne0.false
 
-bad-width-requires : tie.Need-bad-width-requires
-bad-width-requires c κs = search rules
+pub file_length-length-requires : goal.file_length-length-requires
+file_length-length-requires c =
+    few c.args.n c.args.values.now c.args.cares.now c.args.out-1.now (good_at c) (listed_at c)
 
-returns : tie.Need-returns
+pub returns-then-out-length : goal.returns-then-out-length
+returns-then-out-length c =
+    small c.args.n c.args.values.now c.args.cares.now c.args.out-1.now (good_at c) (listed_at c) _
+    c.file_length_lem.ensures c.if-out-length.true
+
+pub put_file-requires : goal.put_file-requires
+put_file-requires c =
+    fits c.args.n c.args.values.now c.args.cares.now c.args.out-1.now (good_at c) (listed_at c) _
+    c.file_length_lem.ensures c.if-out-length.false
+
+pub returns : goal.returns
 returns c =
-    let s = c.before.before.before.before.before in
-    bad s.args.n s.args.values.now s.args.cares.now s.args.out.now (sym c.before.bad-width.ensures ∙ c.if1.true)
-
-list-refusal-requires : tie.Need-list-refusal-requires
-list-refusal-requires c κs = width_to _ (good_at c)
-
-returns_2 : tie.Need-returns-2
-returns_2 c =
-    let s = c.before.before.before.before.before.before.before in
-    refuses_list s.args.n s.args.values.now s.args.cares.now s.args.out.now (good_at c.before.before) _ c.before.list-refusal.ensures
-    c.if2.true
-
-file-length-requires : tie.Need-file-length-requires
-file-length-requires c κs =
-    let s = c.before.before.before.before.before.before.before in
-    few s.args.n s.args.values.now s.args.cares.now s.args.out.now (good_at c.before.before) (listed_at c)
-
-returns-3 : tie.Need-returns-3
-returns-3 c =
-    let s = c.before.before.before.before.before.before.before.before.before in
-    small s.args.n s.args.values.now s.args.cares.now s.args.out.now (good_at c.before.before.before.before) (listed_at c.before.before) _
-    c.before.file_length_lem.ensures c.if3.true
-
-put-file-requires : tie.Need-put-file-requires
-put-file-requires c κs =
-    let s = c.before.before.before.before.before.before.before.before.before.before in
-    fits s.args.n s.args.values.now s.args.cares.now s.args.out.now (good_at c.before.before.before.before.before) (listed_at c.before.before.before) _
-    c.before.before.file_length_lem.ensures c.before.if3.false
-
-same_length : tie.Need-same-length
-same_length c = search rules
-
-returns-4 : tie.Need-returns-4
-returns-4 c =
-    let s = c.before.before.before.before.before.before.before.before.before.before.before.before.before in
-    done s.args.n s.args.values.now s.args.cares.now s.args.out.now (good_at c.before.before.before.before.before.before.before.before)
-    (listed_at c.before.before.before.before.before.before) _ c.before.before.before.before.before.file_length_lem.ensures
-    c.before.before.before.before.if3.false _ c.before.before.put-file.ensures
-
-pub write_spec : {M : Type 1} → statement M
-write_spec =
-    tie.close
-    (tie.spec bad-width-requires returns list-refusal-requires returns_2 file-length-requires returns-3 put-file-requires same_length returns-4)
+    done c.args.n c.args.values.now c.args.cares.now c.args.out-1.now (good_at c)
+    (listed_at c) _ c.file_length_lem.ensures
+    c.if-out-length.false _ c.put_file.ensures
