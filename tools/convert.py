@@ -95,9 +95,11 @@ def fix_paths(text, labels, places, modname='goal'):
     text = re.sub(r"(\.before)+(?=\.)", "", text)
     text = re.sub(r"(\.before)+(?![\w.-])", "", text)
     def lab(m):
-        t = m.group(1)
-        return '.' + labels.get(norm(t), t)
-    text = re.sub(r"\.((?!\d)[\w\-']+)", lab, text)
+        t = m.group(2)
+        if norm(t) not in labels and t.endswith('_lem'):
+            t = t[:-4]
+        return m.group(1) + '.' + labels.get(norm(t), t)
+    text = re.sub(r"(?<![\w.'\-])([A-Za-z_][\w']*)\.((?!\d)[\w\-']+)", lab, text)
     text = text.replace('.well-formed', '.well_formed')
     def typ(m):
         t = m.group(1)
@@ -247,6 +249,26 @@ def convert_fn(crate, path, names, open_goals, log):
         inv = hs_inv + inv
         t = hd + '\n' + '\n'.join(uses) + '\nuse %s.Given as goal\n\n' % modpath + '\n\n'.join(inv) + '\n'
         open(os.path.join(dst, 'Invariants.antt'), 'w', encoding='utf8').write(t)
+    # helpers on a state of the code are written out where they are used
+    inlined = {}
+    for h in list(helpers):
+        code = [l for l in h.split('\n') if not l.startswith('--')]
+        m = re.match(r"(?:abbrev |pub )*(\S+) : \(c : tie\.", code[0]) if code else None
+        if not m: continue
+        body = '\n'.join(code)
+        mm = re.search(r"(?s)\n%s c =(.*)$" % re.escape(m.group(1)), body)
+        if mm and 'unfolding' not in body:
+            expr = ' '.join(x.strip() for x in mm.group(1).strip().split('\n'))
+            inlined[m.group(1)] = expr
+            helpers.remove(h)
+    def inline(t):
+        for _ in range(6):
+            before = t
+            for n, e in inlined.items():
+                t = re.sub(r"(?<![\w.'\-])%s c(?![\w.'\-])" % re.escape(n), lambda m: '(' + e + ')', t)
+            if t == before: break
+        return t.replace('((', '((')
+    ans = [re.sub(r"\(\(([^()]*(?:\([^()]*\)[^()]*)*)\)\)", r"(\1)", inline(a)) for a in ans]
     if open_goals is not None and ans:
         allans = '\n'.join(ans)
         keep = reach(allans) - inv_helpers

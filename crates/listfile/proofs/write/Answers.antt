@@ -6,7 +6,6 @@ use Prim.Native.Nat.{ℕ, zero, suc, ◌<◌, ◌≤◌}
 use native.Mathlib.Nat.{zero-add}
 use lib.ListN.{length}
 use lib.Seq.{sets}
-use borrow.Author.Rules.{rules}
 use borrow.Author.Tests.{lt-ltb, le-ltb}
 use Rattle.cube.specs.Words.{rows_of}
 use Rattle.cube.specs.Calls.{bad_width, short, most_rows, Condition, when, first_of, list_conditions}
@@ -18,7 +17,6 @@ use Rattle.listfile.specs.File.{one_byte_count, file_length, file_of}
 use Rattle.listfile.specs.Write.{write_refuses, Writes}
 use Rattle.listfile.specs.Steps.{Writable}
 use Rattle.listfile.proofs.Theorems.{file_length_lem}
-use Rattle.listfile.proofs.write.Tie as tie
 use Rattle.listfile.proofs.write.Goals as goal
 
 module _ (n : ℕ) (vs ws old : List ℕ) where
@@ -72,29 +70,22 @@ module _ (n : ℕ) (vs ws old : List ℕ) where
               (left ∙ first_passes (short (length old) (file_length one_byte_count (length (rows_of vs ws)))) 4 [] (le-ltb _ _ (subst (λ (i : ℕ). i ≤ length old) needed h)))
               (record { behind = long ∙ sym (zero-add (length (file_of one_byte_count n vs ws))); places = New-is }) (subst (λ (i : ℕ). i ≤ length old) long h)
 
-good_at : (c : tie.Else-bad_width) → bad_width c.args.n ≡ false
-good_at c = sym c.bad_width.ensures ∙ c.if-bad_width.false
-
-listed_at : (c : tie.Else-k-ne0)
-    → (let s = c in first_of (list_conditions s.args.n s.args.values.now s.args.cares.now) ≡ 0)
-listed_at c = sym c.list_refusal-k.ensures ∙ c.if-k-ne0.false
-
 pub file_length-length-requires : goal.file_length-length-requires
 file_length-length-requires c =
-    few c.args.n c.args.values.now c.args.cares.now c.args.out-1.now (good_at c) (listed_at c)
+    few c.args.n c.args.values.now c.args.cares.now c.args.out.now (sym c.bad_width.ensures ∙ c.if-bad_width.false) (sym c.list_refusal-k.ensures ∙ c.if-k-ne0.false)
 
 pub returns-then-out-length : goal.returns-then-out-length
 returns-then-out-length c =
-    small c.args.n c.args.values.now c.args.cares.now c.args.out-1.now (good_at c) (listed_at c) _
-    c.file_length_lem.ensures c.if-out-length.true
+    small c.args.n c.args.values.now c.args.cares.now c.args.out.now (sym c.bad_width.ensures ∙ c.if-bad_width.false) (sym c.list_refusal-k.ensures ∙ c.if-k-ne0.false) _
+    c.file_length-length.ensures c.if-out-length.true
 
 pub put_file-requires : goal.put_file-requires
 put_file-requires c =
-    fits c.args.n c.args.values.now c.args.cares.now c.args.out-1.now (good_at c) (listed_at c) _
-    c.file_length_lem.ensures c.if-out-length.false
+    fits c.args.n c.args.values.now c.args.cares.now c.args.out.now (sym c.bad_width.ensures ∙ c.if-bad_width.false) (sym c.list_refusal-k.ensures ∙ c.if-k-ne0.false) _
+    c.file_length-length.ensures c.if-out-length.false
 
 pub returns : goal.returns
 returns c =
-    done c.args.n c.args.values.now c.args.cares.now c.args.out-1.now (good_at c)
-    (listed_at c) _ c.file_length_lem.ensures
+    done c.args.n c.args.values.now c.args.cares.now c.args.out.now (sym c.bad_width.ensures ∙ c.if-bad_width.false)
+    (sym c.list_refusal-k.ensures ∙ c.if-k-ne0.false) _ c.file_length-length.ensures
     c.if-out-length.false _ c.put_file.ensures
