@@ -1,0 +1,13 @@
+-- `reduction::cyclic_core` meets its contract. The invariant: the state was reached from the start, and `size` is the number of its live rows, which falls in each
+-- round but the last. Assumes nothing.
+use mathlib.Core.Path.{◌≡◌}
+use Rattle.covering.specs.Weighted.{set_size}
+use Rattle.matrix.specs.Sets.{member}
+use Rattle.reduction.specs.Reduction.{ReducedTo}
+use Rattle.reduction.proofs.cyclic_core.Given as goal
+
+abbrev pub invariant-loop-size : goal.invariant-loop-size
+invariant-loop-size l = ReducedTo l.words l.weights l.initial.state.live l.undecided l.state × (l.size ≡ set_size l.end (member l.state.live))
+
+abbrev pub decreases-loop-size : goal.decreases-loop-size
+decreases-loop-size l = l.size
