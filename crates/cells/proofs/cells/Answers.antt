@@ -6,7 +6,6 @@ use Prim.Native.Nat.{ℕ, ◌+◌, ◌^◌, ◌<◌, ◌≤◌}
 use native.Mathlib.Omega.{arith}
 use lib.ListN.{length}
 use Rattle.numbers.specs.Lent.{Puts}
-use borrow.Author.Rules.{rules}
 use borrow.Author.Tests.{lt-ltb, le-ltb, le-leb, lt-leb}
 use Rattle.cube.specs.Words.{codes_of}
 use Rattle.cube.specs.Calls.{bad_width, bad_cube, short, Condition, when, first_of, Listed}
@@ -15,8 +14,7 @@ use Rattle.cube.specs.declared.Counted.TheVariants.{Count, Refused}
 use Rattle.cube.proofs.Codes.{codes_length}
 use Rattle.cube.proofs.Calls.{width_to, first_holds, first_passes, listed_refused, listed_done}
 use Rattle.cells.specs.Cells.{cells_refuses}
-use Rattle.cells.proofs.cells.Statement.{statement}
-use Rattle.cells.proofs.cells.Tie as tie
+use Rattle.cells.proofs.cells.Goals as goal
 
 module _ (n q : ℕ) (d : List ℕ) where
   abbrev Ends : List ℕ → Counted → Type 0
@@ -57,53 +55,16 @@ module _ (n q : ℕ) (d : List ℕ) where
         done p =
             listed_done (left ∙ first_passes (short (length d) (2 ^ n)) 4 [] (le-ltb (length d) (2 ^ n) enough)) p (omega (arith, codes_length n q, enough))
 
-bad-width-requires : tie.Need-bad-width-requires
-bad-width-requires c κs = search rules
-
-returns : tie.Need-returns
-returns c =
-    let s = c.before.before.before in
-    bad s.args.n s.args.q s.args.out.now (sym c.before.bad-width.ensures ∙ c.if1.true)
-
-good_at : (c : tie.Else1) → bad_width c.before.before.before.args.n ≡ false
-good_at c = sym c.before.bad-width.ensures ∙ c.if1.false
-
-cubes-requires : tie.Need-cubes-requires
-cubes-requires c κs = width_to _ (good_at c)
-
-returns_2 : tie.Need-returns-2
-returns_2 c =
-    let s = c.before.before.before.before.before in
-    large s.args.n s.args.q s.args.out.now (good_at c.before.before) _ c.before.cubes.ensures c.if2.true
-
-codes-requires : tie.Need-codes-requires
-codes-requires c κs = width_to _ (good_at c.before.before)
-
-returns-3 : tie.Need-returns-3
-returns-3 c =
-    let s = c.before.before.before.before.before.before.before in
-    small s.args.n s.args.q s.args.out.now (good_at c.before.before.before.before) _ c.before.before.before.cubes.ensures c.before.before.if2.false _
-    c.before.codes.ensures c.if3.true
-
-write-codes-requires : tie.Need-write-codes-requires
-write-codes-requires c κs =
-    let s = c.before.before.before.before.before.before.before.before in
-    let good = good_at c.before.before.before.before.before in
+pub write_codes-requires : goal.write_codes-requires
+write_codes-requires c =
+    let good : bad_width c.args.n ≡ false = sym c.bad_width.ensures ∙ c.if-bad_width.false in
     record {
       width = width_to _ good;
-      cube = below s.args.n s.args.q s.args.out.now good _ c.before.before.before.before.cubes.ensures c.before.before.before.if2.false _ c.before.before.codes.ensures;
-      room = room s.args.n s.args.q s.args.out.now good _ c.before.before.before.before.cubes.ensures c.before.before.before.if2.false _ c.before.before.codes.ensures c.before.if3.false;
+      cube = below c.args.n c.args.q c.args.out.now good _ c.cubes.ensures c.if-cubes-q.false _ c.codes.ensures;
+      room = room c.args.n c.args.q c.args.out.now good _ c.cubes.ensures c.if-cubes-q.false _ c.codes.ensures c.if-out-codes.false;
     }
 
-same_length : tie.Need-same-length
-same_length c = search rules
-
-returns-4 : tie.Need-returns-4
-returns-4 c =
-    let s = c.before.before.before.before.before.before.before.before.before.before.before in
-    done s.args.n s.args.q s.args.out.now (good_at c.before.before.before.before.before.before.before.before) _ c.before.before.before.before.before.before.before.cubes.ensures c.before.before.before.before.before.before.if2.false _ c.before.before.before.before.before.codes.ensures c.before.before.before.before.if3.false
-    c.before.before.write-codes.ensures
-
-pub cells_spec : {M : Type 1} → statement M
-cells_spec =
-    tie.close (tie.spec bad-width-requires returns cubes-requires returns_2 codes-requires returns-3 write-codes-requires same_length returns-4)
+pub returns : goal.returns
+returns c =
+    done c.args.n c.args.q c.args.out.now (sym c.bad_width.ensures ∙ c.if-bad_width.false) _ c.cubes.ensures c.if-cubes-q.false _ c.codes.ensures c.if-out-codes.false
+    c.write_codes.ensures

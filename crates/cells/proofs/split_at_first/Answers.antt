@@ -6,14 +6,12 @@ use Prim.Native.Nat.{ℕ, ◌*◌, ◌-◌, ◌^◌, ◌<◌, ◌≤◌}
 use native.Mathlib.Omega.{arith}
 use native.Mathlib.Nat.{pos_of_ne-zero, one-le-pow}
 use lib.Dec.{lit<}
-use borrow.Author.Rules.{rules}
 use Rattle.cube.specs.Words.{digit, value_of}
 use Rattle.cube.proofs.Digits.{put_digit, put_lt, put_weight, value_lt}
 use Rattle.cube.proofs.Codes.{codes_split, codes_one, untested_falls, literals_le}
 use Rattle.cells.specs.Steps.{FirstUntested, Half, Splits}
 use Rattle.cells.specs.declared.Split.TheVariants.{Code, Halves}
-use Rattle.cells.proofs.split_at_first.Statement.{statement}
-use Rattle.cells.proofs.split_at_first.Tie as tie
+use Rattle.cells.proofs.split_at_first.Goals as goal
 
 one_code : (n q k v : ℕ) → FirstUntested n q k → k ≡ 0 → v ≡ value_of n q → Splits n q (Code v)
 one_code n q k v f e d = (
@@ -55,36 +53,15 @@ module _ (n q k p : ℕ) (l : q < 3 ^ n) (f : FirstUntested n q k) (pos : 0 < k)
     codes_split n (k - 1) q inside (f.untested pos) (λ j a. f.before j (omega arith)),
   )
 
-first-untested-requires : tie.Need-first-untested-requires
-first-untested-requires c κs = search rules
+pub returns-then-k-eq0 : goal.returns-then-k-eq0
+returns-then-k-eq0 c = one_code _ _ _ _ c.first_untested-k.ensures c.if-k-eq0.true c.value.ensures
 
-value-requires : tie.Need-value-requires
-value-requires c κs = search rules
+pub overflow_sub-result : goal.overflow_sub-result
+overflow_sub-result c = room _ _ _ _ c.requires.1 c.first_untested-k.ensures (pos_of_ne-zero c.if-k-eq0.false) c.cubes-weight.ensures
 
-returns : tie.Need-returns
-returns c = one_code _ _ _ _ c.before.before.first-untested.ensures c.before.if1.true c.value.ensures
+pub overflow_sub-result-2 : goal.overflow_sub-result-2
+overflow_sub-result-2 c = omega (arith, room _ _ _ _ c.requires.1 c.first_untested-k.ensures (pos_of_ne-zero c.if-k-eq0.false) c.cubes-weight.ensures)
 
-sub-cubes : tie.Need-overflow-sub-cubes
-sub-cubes c = search rules
-
-cubes-requires : tie.Need-cubes-requires
-cubes-requires c κs = omega (arith, c.before.first-untested.ensures.inside)
-
-room_at : (c : tie.After-cubes) → 2 * c.cubes.result ≤ c.before.before.before.args.q
-room_at c = room _ _ _ _ c.before.before.before.requires.1 c.before.before.first-untested.ensures (pos_of_ne-zero c.before.if1.false) c.cubes.ensures
-
-mul-t7 : tie.Need-overflow-mul-t7
-mul-t7 c = omega (arith, room_at c)
-
-sub-t8 : tie.Need-overflow-sub-t8
-sub-t8 c = room_at c
-
-sub-t9 : tie.Need-overflow-sub-t9
-sub-t9 c = omega (arith, room_at c)
-
-returns_2 : tie.Need-returns-2
-returns_2 c =
-    two_halves _ _ _ _ c.before.before.before.requires.1 c.before.before.first-untested.ensures (pos_of_ne-zero c.before.if1.false) c.cubes.ensures
-
-pub split_at_first_spec : {M : Type 1} → statement M
-split_at_first_spec = tie.close (tie.spec first-untested-requires value-requires returns sub-cubes cubes-requires mul-t7 sub-t8 sub-t9 returns_2)
+pub returns : goal.returns
+returns c =
+    two_halves _ _ _ _ c.requires.1 c.first_untested-k.ensures (pos_of_ne-zero c.if-k-eq0.false) c.cubes-weight.ensures
