@@ -96,6 +96,8 @@ def fix_paths(text, labels, places, modname='goal'):
     text = re.sub(r"(\.before)+(?![\w.-])", "", text)
     def lab(m):
         t = m.group(2)
+        if m.group(1) != 'c' and re.search(r"\blet %s = c\.(args|requires|ranges|[\w.-]*new)" % re.escape(m.group(1)), text):
+            return m.group(0)
         if norm(t) not in labels and t.endswith('_lem'):
             t = t[:-4]
         return m.group(1) + '.' + labels.get(norm(t), t)
