@@ -22,7 +22,7 @@ pub enum Built {
 }
 
 // The totals of a list: its rows and their tested bits.
-#[derive(Drop)]
+#[derive(Clone, Copy)]
 struct Totals {
     rows: usize,
     bits: usize,
