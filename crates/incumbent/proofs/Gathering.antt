@@ -1,6 +1,6 @@
 -- Rows gathered one by one: each row adds its columns and its weight, which no later row changes. In the end a set that the columns gathered include is
 -- covered. Assumes nothing.
-use Rattle.std.proofs.Common.{◌≡◌, ℕ, ◌+◌, ◌*◌, ◌<◌, ◌≤◌, false, ◌||◌, eqb, List, sym, refl, ap, ◌∙◌, subst, ⊎_elim, arith, eq-eqb, eqb-true}
+use Rattle.std.proofs.Common.{◌≡◌, ℕ, ◌+◌, ◌<◌, ◌≤◌, false, ◌||◌, eqb, List, sym, refl, ap, ◌∙◌, subst, ⊎_elim, arith, eq-eqb, eqb-true}
 use Rattle.covering.specs.Sum.{sum}
 use Rattle.numbers.proofs.Flags.{clash, not_set, either_of, left_of, right_of}
 use Rattle.covering.proofs.Sums.{sum_skip, sum_with, if_set_false}

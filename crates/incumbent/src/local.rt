@@ -29,7 +29,7 @@ const SEED: u64 = 88172645463325252;
 
 // The rows inside the selection, the columns that they leave open and their weight; the rows that may enter, since a row that shares a column with them
 // changed after they left, and the row that may not leave, since it entered last; and the lightest cover so far.
-#[derive(Drop)]
+#[derive(Clone, Copy)]
 struct State {
     undecided: columns::Set,
     inside: rows::Set,

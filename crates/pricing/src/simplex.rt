@@ -41,7 +41,7 @@ type Factors = [f32; ROWS + WIDTH];
 pub type Recalled = [f32; rows::LIMIT + columns::LIMIT + 1];
 
 // The size of the tableau that is in use.
-#[derive(Drop)]
+#[derive(Clone, Copy)]
 struct Size {
     rows: usize,
     places: usize,

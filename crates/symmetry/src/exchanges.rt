@@ -23,7 +23,7 @@ const SET_IN: [columns::Set; VARIABLES] = [
 ];
 
 // An exchange: the columns of a set change places with those that are a distance higher.
-#[derive(Drop)]
+#[derive(Clone, Copy)]
 pub struct Exchange {
     pub low: columns::Set,
     pub distance: usize,
