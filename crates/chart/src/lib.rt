@@ -16,7 +16,7 @@ use spelling::MOST_CUBES;
 
 // A chart row: cube number, code word, tested bits, laid out as C would lay it out.
 #[repr(C)]
-#[derive(Drop)]
+#[derive(Clone, Copy)]
 pub struct ChartRow {
     pub cube: u16,
     pub word: u64,
@@ -48,7 +48,7 @@ fn fill(rows: &mut [ChartRow], chart: Arrays)
 }
 
 // What is to be answered and written: the refusal, or 0, and the chart, which has no row where it is refused.
-#[derive(Drop)]
+#[derive(Clone, Copy)]
 struct Prepared {
     refusal: u8,
     chart: Arrays,

@@ -104,7 +104,7 @@ fn fill_literals(n: usize, cubes: &[u16], count: usize, into: &mut [u8])
 }
 
 // The chart on parallel arrays: how many rows there are, and place i of each array for the prime at place i of those that serve.
-#[derive(Drop)]
+#[derive(Clone, Copy)]
 pub struct Arrays {
     pub rows: usize,
     pub cubes: [u16; MOST_CUBES],

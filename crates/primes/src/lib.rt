@@ -94,6 +94,7 @@ fn expands(n: usize, kinds: &[u8], q: usize, k: usize) -> bool
 }
 
 // Whether q is an implicant that serves and of which no literal can be given up.
+#[tactic(auto, unfolding(crate::specs::Steps::serving_prime_by))]
 fn is_serving_prime(n: usize, kinds: &[u8], q: usize) -> bool
     requires { (n ≤ widest) × (3 ^ n ≤ length kinds.now) × (q < 3 ^ n) }
     ensures { result ≡ serving_prime_by n kinds.now q }

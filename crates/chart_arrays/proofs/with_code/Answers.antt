@@ -35,9 +35,9 @@ module _ (t : List ℕ) (v w c word : ℕ) where
 pub returns-then-c-care : goal.returns-then-c-care
 returns-then-c-care c =
     let s = c.args in
-    none s.table.now s.value s.care s.c s.word (unmatched s.table.now s.value s.care s.c s.word (omega (arith, c.if-table-c-ne1.false)) c.if-c-care.true)
+    none s.table.now s.value s.care s.c s.word (unmatched s.table.now s.value s.care s.c s.word (omega arith) c.if-c-care.true)
 
 pub returns : goal.returns
 returns c =
     let s = c.args in
-    added s.table.now s.value s.care s.c s.word (omega (arith, c.if-table-c-ne1.false)) c.with_next.ensures c.if-c-care.false
+    added s.table.now s.value s.care s.c s.word (omega arith) c.with_next.ensures c.if-c-care.false

@@ -8,4 +8,4 @@ use Rattle.neighbours.proofs.add_code.Goals as goal
 pub returns-then-table-c-ne1 : goal.returns-then-table-c-ne1
 returns-then-table-c-ne1 c =
     not_wanted c.args.n c.args.table.now c.args.out.now c.args.c c.args.count c.requires
-    (ne_eqb (cell c.args.table.now c.args.c) 1 (λ e. omega (arith, e, c.if-table-c-ne1.true)))
+    (ne_eqb (cell c.args.table.now c.args.c) 1 (λ e. omega arith))

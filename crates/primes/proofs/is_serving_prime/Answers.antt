@@ -5,17 +5,13 @@ use mathlib.Core.List.{List}
 use Prim.Native.Nat.{ℕ, ◌<◌}
 use native.Mathlib.Omega.{arith}
 use lib.ListN.{get_or}
-use borrow.Author.Tests.{eq-eqb, ne_eqb}
+use borrow.Author.Tests.{eq-eqb}
 use Rattle.numbers.specs.Below.{some}
 use Rattle.numbers.proofs.Below.{some_found, some_none}
 use Rattle.primes.specs.Steps.{expands_by, serving_prime_by}
 use Rattle.primes.proofs.is_serving_prime.Goals as goal
 
 module _ (n : ℕ) (kinds : List ℕ) (q : ℕ) where
-  not_serving : (get_or kinds q 0 ≡ 2 → ⊥) → false ≡ serving_prime_by n kinds q
-  unfolding serving_prime_by
-  not_serving h = sym (ap (λ (b : Bool). b && not (some n (expands_by kinds q))) (ne_eqb (get_or kinds q 0) 2 h))
-
   module _ (h : get_or kinds q 0 ≡ 2) where
     by_literals : serving_prime_by n kinds q ≡ not (some n (expands_by kinds q))
     unfolding serving_prime_by
@@ -27,14 +23,11 @@ module _ (n : ℕ) (kinds : List ℕ) (q : ℕ) where
     none_expands : ((k : ℕ) → k < n → expands_by kinds q k ≡ false) → true ≡ serving_prime_by n kinds q
     none_expands f = sym (by_literals ∙ ap not (some_none n (expands_by kinds q) f))
 
-pub returns-then-kinds-q-ne-SERVING : goal.returns-then-kinds-q-ne-SERVING
-returns-then-kinds-q-ne-SERVING c = not_serving _ c.args.kinds.now _ (λ e. omega (arith, e, c.if-kinds-q-ne-SERVING.true))
-
 pub returns-then-expands : goal.returns-then-expands
 returns-then-expands c =
-    one_expands _ c.args.kinds.now _ (omega (arith, c.if-kinds-q-ne-SERVING.false)) _
+    one_expands _ c.args.kinds.now _ (omega arith) _
     c.loop-k-test.true (sym c.expands.ensures ∙ c.if-expands.true)
 
 pub returns : goal.returns
 returns c =
-    none_expands _ c.args.kinds.now _ (omega (arith, c.if-kinds-q-ne-SERVING.false)) (λ k l. c.loop-k.invariant.1 k (omega arith))
+    none_expands _ c.args.kinds.now _ (omega arith) (λ k l. c.loop-k.invariant.1 k (omega arith))
