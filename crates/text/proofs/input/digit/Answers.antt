@@ -4,14 +4,12 @@ use mathlib.Core.Bool.{Bool, true, false, cond, ◌&&◌}
 use Prim.Native.Nat.{ℕ, ◌<◌, ◌≤◌}
 use native.Mathlib.Omega.{arith}
 use lib.Dec.{leb}
-use borrow.Author.Rules.{rules}
 use borrow.Author.Tests.{le-leb, lt-leb}
 use Rattle.text.specs.Input.{is_digit, width_of}
 use Rattle.text.specs.Steps.{after_digit, wrong, LeadsTo}
 use Rattle.text.specs.declared.input.Reading.TheVariants.{Start, Width, Wrong}
 use Rattle.text.proofs.Readings.{takes_one}
-use Rattle.text.proofs.input.digit.Statement.{statement}
-use Rattle.text.proofs.input.digit.Tie as tie
+use Rattle.text.proofs.input.digit.Goals as goal
 
 module _ (b : ℕ) where
   no_digit : is_digit b ≡ false → LeadsTo Start b Wrong
@@ -30,17 +28,11 @@ module _ (b : ℕ) where
         let e : is_digit b ≡ true = ap₂ ◌&&◌ (le-leb 48 b l) (le-leb b 57 h) in
         takes_one Start (Width (width_of b)) cells b (ap (λ (t : Bool). cond t (after_digit (width_of b)) wrong) (sym e)) (record { places = p; most = omega arith })
 
-returns : tie.Need-returns
-returns c = low _ c.if1.true
+pub returns-then-byte-lt48 : goal.returns-then-byte-lt48
+returns-then-byte-lt48 c = low _ c.if-byte-lt48.true
 
-returns_2 : tie.Need-returns-2
-returns_2 c = high _ c.before.if1.false c.if2.true
+pub returns-then-byte-gt57 : goal.returns-then-byte-gt57
+returns-then-byte-gt57 c = high _ c.if-byte-lt48.false c.if-byte-gt57.true
 
-cast-t4 : tie.Need-overflow-cast-t4
-cast-t4 c = search rules
-
-returns-3 : tie.Need-returns-3
-returns-3 c = width _ c.before.if1.false c.if2.false
-
-pub digit_spec : {M : Type 1} → statement M
-digit_spec = tie.close (tie.spec returns returns_2 cast-t4 returns-3)
+pub returns : goal.returns
+returns c = width _ c.if-byte-lt48.false c.if-byte-gt57.false

@@ -9,8 +9,7 @@ use Rattle.text.specs.Characters.{line_feed}
 use Rattle.text.specs.Steps.{in_run, wrong, LeadsTo}
 use Rattle.text.specs.declared.input.Reading.TheVariants.{Width, Run, Wrong}
 use Rattle.text.proofs.Readings.{takes_one}
-use Rattle.text.proofs.input.line_feed.Statement.{statement}
-use Rattle.text.proofs.input.line_feed.Tie as tie
+use Rattle.text.proofs.input.line_feed.Goals as goal
 
 module _ (n b : ℕ) where
   met : b ≡ line_feed → LeadsTo (Width n) b (Run n 0)
@@ -21,11 +20,8 @@ module _ (n b : ℕ) where
   other e cells l =
       takes_one (Width n) Wrong cells b (ap (λ (t : Bool). cond t (in_run n []) wrong) (sym (ne_eqb b line_feed e))) (record { places = l; most = omega arith })
 
-returns : tie.Need-returns
-returns c = met _ _ c.if1.true
+pub returns-then-byte-eq10 : goal.returns-then-byte-eq10
+returns-then-byte-eq10 c = met _ _ c.if-byte-eq10.true
 
-returns_2 : tie.Need-returns-2
-returns_2 c = other _ _ c.if1.false
-
-pub line_feed_spec : {M : Type 1} → statement M
-line_feed_spec = tie.close (tie.spec returns returns_2)
+pub returns : goal.returns
+returns c = other _ _ c.if-byte-eq10.false

@@ -9,7 +9,6 @@ use native.Mathlib.Omega.{arith}
 use lib.Dec.{leb}
 use lib.ListN.{length, length-append, length-set, take, set}
 use lib.Seq.{length-take-le, take_all, take-append-le, take-suc-set}
-use borrow.Author.Rules.{rules}
 use borrow.Author.Tests.{eq-eqb, ne_eqb, le-leb, lt-leb}
 use Rattle.text.specs.Characters.{line_feed}
 use Rattle.text.specs.Input.{cell_of, is_cell}
@@ -17,8 +16,7 @@ use Rattle.text.specs.Steps.{most_cells, keep, State, in_run, at_end, wrong, ste
 use Rattle.text.specs.declared.input.Reading.{Reading}
 use Rattle.text.specs.declared.input.Reading.TheVariants.{Run, End, Wrong}
 use Rattle.text.proofs.Readings.{takes_one, takes_cell}
-use Rattle.text.proofs.input.run.Statement.{statement}
-use Rattle.text.proofs.input.run.Tie as tie
+use Rattle.text.proofs.input.run.Goals as goal
 
 module _ (n count b : ℕ) (cells : List ℕ) (h : Room (Run n count) cells) where
   abbrev Ends : Reading → List ℕ → Type 0
@@ -69,35 +67,20 @@ module _ (n count b : ℕ) (cells : List ℕ) (h : Room (Run n count) cells) whe
           sym (take-append-le most_cells (take count cells) one (omega (arith, length_is)) ∙ take_all most_cells (take count cells) (omega (arith, length_is))) in
           takes_one (Run n count) (Run n count) cells b (ap (in_run n) all ∙ by_cell true (le-leb x 2 l)) h
 
-returns : tie.Need-returns
-returns c = let s = c.before.before in ended _ _ _ s.args.cells.now s.requires c.if1.true
+pub returns-then-byte-eq10 : goal.returns-then-byte-eq10
+returns-then-byte-eq10 c = let s = c in ended _ _ _ s.args.cells.now s.requires c.if-byte-eq10.true
 
-cell-of-requires : tie.Need-cell-of-requires
-cell-of-requires c κs = search rules
+pub returns-then-cell-gt2 : goal.returns-then-cell-gt2
+returns-then-cell-gt2 c =
+    let s = c in
+    no_cell _ _ _ s.args.cells.now s.requires _ c.cell_of-cell.ensures c.if-byte-eq10.false c.if-cell-gt2.true
 
-returns_2 : tie.Need-returns-2
-returns_2 c =
-    let s = c.before.before.before.before in
-    no_cell _ _ _ s.args.cells.now s.requires _ c.before.cell-of.ensures c.before.before.if1.false c.if2.true
+pub returns-then-count-lt-MOST_CELLS : goal.returns-then-count-lt-MOST_CELLS
+returns-then-count-lt-MOST_CELLS c =
+    let s = c in
+    stored _ _ _ s.args.cells.now s.requires _ c.cell_of-cell.ensures c.if-byte-eq10.false c.if-cell-gt2.false c.if-count-lt-MOST_CELLS.true
 
-slice-write-cells : tie.Need-slice-write-cells
-slice-write-cells c = search rules
-
-add-t8 : tie.Need-overflow-add-t8
-add-t8 c = search rules
-
-same_length : tie.Need-same-length
-same_length c = search rules
-
-returns-3 : tie.Need-returns-3
-returns-3 c =
-    let s = c.before.before.before.before.before in
-    stored _ _ _ s.args.cells.now s.requires _ c.before.before.cell-of.ensures c.before.before.before.if1.false c.before.if2.false c.if3.true
-
-returns-4 : tie.Need-returns-4
-returns-4 c =
-    let s = c.before.before.before.before.before in
-    full _ _ _ s.args.cells.now s.requires _ c.before.before.cell-of.ensures c.before.before.before.if1.false c.before.if2.false c.if3.false
-
-pub run_spec : {M : Type 1} → statement M
-run_spec = tie.close (tie.spec returns cell-of-requires returns_2 slice-write-cells add-t8 same_length returns-3 returns-4)
+pub returns : goal.returns
+returns c =
+    let s = c in
+    full _ _ _ s.args.cells.now s.requires _ c.cell_of-cell.ensures c.if-byte-eq10.false c.if-cell-gt2.false c.if-count-lt-MOST_CELLS.false
