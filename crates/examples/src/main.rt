@@ -6,11 +6,11 @@ mod documents;
 mod print;
 mod terms;
 
-fn main() {
-    documents::document_01();
-    documents::document_000_sections_2_to_3();
-    documents::document_000_tables_2_to_8();
-    documents::document_000_sections_7_to_11();
-    documents::document_001();
-    documents::documents_002_and_003();
+fn main(rt: HostRuntime) {
+    documents::document_01(&rt);
+    documents::document_000_sections_2_to_3(&rt);
+    documents::document_000_tables_2_to_8(&rt);
+    documents::document_000_sections_7_to_11(&rt);
+    documents::document_001(&rt);
+    documents::documents_002_and_003(&rt);
 }

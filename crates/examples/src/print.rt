@@ -1,16 +1,14 @@
 // What the examples print: texts and numbers.
-use libc::STDOUT_FILENO;
-
-pub fn text(bytes: &[u8]) {
-    io::write_all(STDOUT_FILENO, bytes);
+pub fn text(rt: &impl Print, bytes: &[u8]) {
+    let _ = rt.write_all(bytes);
 }
 
-pub fn number(x: usize) {
-    io::print_decimal(STDOUT_FILENO, x as u64);
+pub fn number(rt: &impl Print, x: usize) {
+    let _ = rt.print(x);
 }
 
-pub fn refused(k: u8) {
-    text(b"refused ");
-    number(k as usize);
-    text(b"\n");
+pub fn refused(rt: &impl Print, k: u8) {
+    text(rt, b"refused ");
+    number(rt, k as usize);
+    text(rt, b"\n");
 }

@@ -1,4 +1,3 @@
--- What the answer of a read says, what the pieces make up, and what is handed over.
-pub mod Answers
+-- What the pieces make up, and what is handed over.
 pub mod Pieces
 pub mod Outputs

@@ -3,7 +3,7 @@ use mathlib.Core.Path.{◌≡◌, refl, sym, ap, subst, ◌∙◌}
 use mathlib.Core.List.{List, [], ◌∷◌, ◌++◌}
 use Prim.Native.Nat.{ℕ, ◌≤◌}
 use native.Mathlib.Omega.{arith}
-use lib.IntN.{ℤ, pos, negsuc}
+use Rattle.std.specs.Prelude.{Result, Ok, Err}
 use lib.ListN.{length, take}
 use Rattle.text.specs.Steps.{most_cells, State, at_start, fed, state_of}
 use Rattle.text.specs.declared.input.Reading.{Reading}
@@ -21,18 +21,18 @@ pub read_wrong : {reading : Reading} {first cells : List ℕ} → ReadAll readin
 unfolding fed
 read_wrong before = record { input = 0 ∷ []; state = refl; room = record { places = before.room.places; most = omega arith }; rest = before.rest }
 
-pub read_more : {first : List ℕ} (reading : Reading) (old : List ℕ) (got : ℤ) (piece : List ℕ) (t v : Turn) (new : List ℕ) → t ≡ v
+pub read_more : {E : Type 0} {first : List ℕ} (reading : Reading) (old : List ℕ) (got : Result ℕ E) (piece : List ℕ) (t v : Turn) (new : List ℕ) → t ≡ v
     → Turned reading old got piece t new
     → ReadAll reading first old
     → ReadAll (reached v) first new
 unfolding fed
-read_more {first} reading old got piece t v new e turned before = subst (λ (x : Turn). ReadAll (reached x) first new) e (go got turned.state)
+read_more {E} {first} reading old got piece t v new e turned before = subst (λ (x : Turn). ReadAll (reached x) first new) e (go got turned.state)
   where
-    go : (z : ℤ) → state_of (reached t) new ≡ after_read (state_of reading old) z piece → ReadAll (reached t) first new
-    go (pos k) s = record {
+    go : (z : Result ℕ E) → state_of (reached t) new ≡ after_read (state_of reading old) z piece → ReadAll (reached t) first new
+    go (Ok k) s = record {
       input = before.input ++ take k piece;
       state = s ∙ ap (λ (x : State). fed x (take k piece)) before.state ∙ sym (fed-append at_start before.input (take k piece));
       room = turned.room;
       rest = turned.rest ∙ before.rest;
     }
-    go (negsuc k) s = record { input = 0 ∷ []; state = s; room = turned.room; rest = turned.rest ∙ before.rest }
+    go (Err x) s = record { input = 0 ∷ []; state = s; room = turned.room; rest = turned.rest ∙ before.rest }
