@@ -1,0 +1,15 @@
+-- `installer::rows_plan` meets its contract: Plan's promise, and the number of its answer. Assumes nothing.
+use mathlib.Core.Path.{ap, ◌∙◌}
+use Rattle.installer.specs.Numbers.{read_plan}
+use Rattle.installer.proofs.Signed.{returned}
+use Rattle.installer.proofs.Totals.{few_totals, read_back}
+use Rattle.installer.proofs.rows_plan.Goals as goal
+
+pub plan_number-requires : goal.plan_number-requires
+plan_number-requires c = few_totals _ c.plan.ensures
+
+pub returns : goal.returns
+returns c =
+    let p = c.plan in
+    let number = returned c.plan_number.result c.plan_number.type_inv ∙ c.plan_number.ensures in
+    record { planned = p.result; plans = p.ensures; number = number; read = ap read_plan number ∙ read_back _ p.ensures }
