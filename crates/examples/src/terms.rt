@@ -1,7 +1,6 @@
 // Primes, Essentials and Plan on one table. A term is printed as the papers have it, x1 first, `-` for untested.
-ghost use Rattle.std.specs.Prelude.{◌≤◌, ◌^◌, length};
+ghost use Rattle.std.specs.Prelude.{◌≡◌, ◌≤◌, ◌^◌, length, take};
 ghost use Rattle.cube.specs.Calls.{widest};
-ghost use Rattle.io.specs.Counts.{IsPrefixLen};
 
 use cube::Counted;
 use plan::Planned;
@@ -19,7 +18,7 @@ fn cell_of(character: u8) -> u8 {
 // The cells of a table written as a run of 0, 1 and -. Returns how many there are.
 fn read_cells(text: &[u8], cells: &mut [u8]) -> usize
     requires { length text.now ≤ length cells.old }
-    ensures { IsPrefixLen result cells.new }
+    ensures { (result ≤ length cells.new) × (result ≡ length (take result cells.new)) }
 {
     let mut c = 0;
     while c < text.len() {
