@@ -206,7 +206,8 @@ class Program:
         read_end, write_end = os.pipe()
         os.close(read_end)
         expect("a pipe without a reader", written(write_end, no_signal), failure)
-        expect("a pipe without a reader, and its signal", written(write_end), (None, b"", -signal.SIGPIPE))
+        # the start-up of a program ignores the signal, whatever it was before, so that the write fails
+        expect("a pipe without a reader, and its signal", written(write_end), failure)
         os.close(write_end)
         read_end, write_end = full_pipe()
         expect("a full non-blocking pipe", written(write_end), failure)
