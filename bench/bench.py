@@ -47,8 +47,9 @@ def timed(words, **more):
 
 
 def build(program, library):
-    run(["rt", "staticlib", library])
-    run(["cc", "-O2", "-static", "-Iinclude", "-o", OUT + "/" + program, "bench/%s.c" % program, "target/staticlib/lib%s.a" % library, "-lpthread"])
+    archive = "target/staticlib/lib%s.a" % library
+    run(["make", archive])
+    run(["cc", "-O2", "-static", "-Iinclude", "-o", OUT + "/" + program, "bench/%s.c" % program, archive, "-lpthread"])
 
 
 def prepare(quick):

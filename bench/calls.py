@@ -27,7 +27,7 @@ def run(words):
 
 def main(name, *archives):
     os.makedirs(OUT, exist_ok=True)
-    run(["rt", "staticlib", "installer"])
+    run(["make", OURS])
     programs = []
     for number, archive in enumerate((OURS,) + archives):
         programs.append("%s/%s%d" % (OUT, name, number))

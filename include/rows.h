@@ -1,7 +1,8 @@
 /* rows.h: the row builder for C. It makes the rows by which a switch chip picks packet marks.
  *
- * Link with libinstaller.a, which `rt staticlib installer` writes. Of the C library it uses memcpy,
- * memmove, memset and memcmp at most. examples/install.c and examples/read.c are clients to copy.
+ * Link with libinstaller.a, which `make target/staticlib/libinstaller.a` writes. Of the C library it
+ * uses memcpy, memmove, memset and memcmp at most. examples/install.c and examples/read.c are clients
+ * to copy.
  *
  * Words
  *
@@ -31,9 +32,9 @@
  * so threads may call at the same time, each with its own arrays.
  *
  * A call needs stack: allow rows_plan, rows_keep_out and rows_better 1 MB. The most that was measured on
- * x86-64, from the caller's frame down, is 273 KB for these three, 33 KB for rows_chart, 9 KB for
- * rows_essentials, 264 bytes for rows_essentials_by_neighbours and 3 KB for the other calls; an earlier
- * measurement had 287 KB for rows_plan. No bound is proved.
+ * x86-64, from the caller's frame down, is 311 KB for these three. With the older toolchain it was 273 KB
+ * for these, 33 KB for rows_chart, 9 KB for rows_essentials, 264 bytes for rows_essentials_by_neighbours
+ * and 3 KB for the other calls; for none of these was more measured with today's. No bound is proved.
  *
  * Answers
  *

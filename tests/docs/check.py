@@ -33,9 +33,9 @@ def text(pattern):
 
 
 STATED = text("*/specs/*.antt") + text("*/src/*.rt")
-PROVED = text("*/proofs/*.antt") + text("*/proofs/**/Proof.antt")
+PROVED = text("*/proofs/**/*.antt")
 EDITS = {path.stem for path in CRATES.glob("*/must-fail/*.edit")}
-REFUTED = set(re.findall(r"pub ([a-z0-9-]+) :", text("*/proofs/Refuted.antt")))
+REFUTED = set(re.findall(r"pub ([a-z0-9_-]+) :", text("*/proofs/Refuted.antt")))
 
 
 def word(name, body):
@@ -83,11 +83,10 @@ def check_promises():
         names = re.findall(r"`([^`]+)`", said)
         for name in names:
             if kind.startswith(("guarded by", "shut out by")):
-                bare = name.removeprefix("Refuted.")
-                if re.fullmatch(r"[a-z0-9_]+", name):
-                    expect("edit %s" % name, name in EDITS or bare in REFUTED or word(name, STATED))
-                elif re.fullmatch(r"(Refuted\.)?[a-z0-9-]+", name):
-                    expect("theorem %s" % name, bare in REFUTED)
+                if re.fullmatch(r"Refuted\.[a-z0-9_-]+", name):
+                    expect("theorem %s" % name, name.removeprefix("Refuted.") in REFUTED)
+                elif re.fullmatch(r"[a-z0-9_-]+", name):
+                    expect("edit or theorem %s" % name, name in EDITS or name in REFUTED)
             elif kind.startswith(("says it", "theorem", "promised by", "where")):
                 if "::" in name:
                     expect("function %s" % name, has_function(name))
@@ -114,9 +113,10 @@ def pages():
 
 
 def cited(page):
-    """The pages of this repository that a page imports from. What is generated from the types of the code is not written by hand."""
-    for crate, name in re.findall(r"^use Rattle·(\w+)(?:·specs\.specs|\.specs)\.([A-Z]\w*)", page.read_text(), re.M):
-        yield CRATES / crate / "specs" / (name + ".antt")
+    """The pages of this repository that a page imports from. What is generated from the types of the code, `specs.declared`, is not written by hand."""
+    for crate, name in re.findall(r"^ *(?:\w+ )*use Rattle\.(\w+)\.specs\.([A-Z]\w*)", page.read_text(), re.M):
+        if (CRATES / crate).is_dir():
+            yield CRATES / crate / "specs" / (name + ".antt")
 
 
 def lines(page):

@@ -115,7 +115,7 @@ def in_the_program():
 
 
 def sections(text):
-    """The sections of what the program prints, by name. `rt check` checks the program against crates/examples/stdout."""
+    """The sections of what the program prints, by name. `rt ci` compares what the program prints with crates/examples/stdout."""
     return {part.split('\n')[0]: part for part in re.findall(r'^\S.*\n(?: .*\n)*', text, re.M)}
 
 
