@@ -22,7 +22,8 @@ module _ (n : ℕ) (t values cares : List ℕ) (none : plan_refuses n t (length 
   list_stands {vs} {ws} {vs'} {ws'} r v w e p =
       subst⁻¹ (StandsIn n t vs' ws') e (stands n t vs ws vs' ws' (none_locally n t values cares none (length vs) (length ws) v w) r p)
 
-  excluding_stands : {vs ws vs' ws' : List ℕ} {totals : Totals} (r : Planned) → 2 ^ (widest - 1) ≤ length vs → 2 ^ (widest - 1) ≤ length ws → totals ≡ totals_in r
+  excluding_stands : {vs ws vs' ws' : List ℕ} {totals : Totals} (r : Planned) → 2 ^ (widest - 1) ≤ length vs → 2 ^ (widest - 1) ≤ length ws
+      → totals ≡ totals_in r
       → PlansKeepOut n t vs ws vs' ws' r → StandsIn n (exchanged t) vs' ws' totals
   excluding_stands {vs} {ws} {vs'} {ws'} r v w e p =
       let locally = (exchange n t).refusal (length vs) (length ws) ∙ none_locally n t values cares none (length vs) (length ws) v w in

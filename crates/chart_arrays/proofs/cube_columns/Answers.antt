@@ -14,7 +14,8 @@ use Rattle.chart_arrays.specs.Columns.{columns_of}
 use Rattle.chart_arrays.specs.Steps.{row_column}
 use Rattle.chart_arrays.proofs.cube_columns.Goals as goal
 
-by_row : (n : ℕ) (t : List ℕ) (q v w r : ℕ) → length t ≡ 2 ^ n → q < 3 ^ n → v ≡ value_of n q → w ≡ care_of n q → r ≡ word_of (length t) (row_column t v w) → r ≡ columns_of n t q
+by_row : (n : ℕ) (t : List ℕ) (q v w r : ℕ) → length t ≡ 2 ^ n → q < 3 ^ n → v ≡ value_of n q → w ≡ care_of n q
+    → r ≡ word_of (length t) (row_column t v w) → r ≡ columns_of n t q
 by_row n t q v w r e l v-is w-is r-is =
     r-is ∙ ap₂ (λ (i j : ℕ). word_of (length t) (row_column t i j)) v-is w-is ∙ ap (λ (m : ℕ). word_of m (row_column t (value_of n q) (care_of n q))) e
     ∙ word_same (2 ^ n) (row_column t (value_of n q) (care_of n q)) (column n t q) (λ c k. ap (λ (b : Bool). on_set t c && b) (row_of_matches n q c l))

@@ -30,7 +30,8 @@ sole_columns-sole-requires c = words_long c.args.n _ _ c.requires.width c.cubes-
 
 pub mark_holders-requires : goal.mark_holders-requires
 mark_holders-requires c =
-    (words_long c.args.n _ _ c.requires.width c.cubes-cubes.ensures c.prime_words.auto.words, omega (arith, c.cubes-cubes.ensures, c.mark_serving_primes.auto.marks, c.requires.enough))
+    (words_long c.args.n _ _ c.requires.width c.cubes-cubes.ensures c.prime_words.auto.words,
+        omega (arith, c.cubes-cubes.ensures, c.mark_serving_primes.auto.marks, c.requires.enough))
 
 pub returns : goal.returns
 returns c q l =
@@ -41,4 +42,5 @@ returns c q l =
     let h = c.mark_holders.ensures q (subst⁻¹ (λ (m : ℕ). q < m) e l) in
     h.is
     ∙ ap flag
-    (holder_is_essential s.n s.table.now words sole c.prime_words.ensures (subst (λ (m : ℕ). SoleColumns words m sole) e c.sole_columns-sole.ensures) q l h.held h.tells)
+    (holder_is_essential s.n s.table.now words sole c.prime_words.ensures
+        (subst (λ (m : ℕ). SoleColumns words m sole) e c.sole_columns-sole.ensures) q l h.held h.tells)

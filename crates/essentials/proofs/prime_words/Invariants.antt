@@ -9,7 +9,8 @@ use Rattle.essentials.proofs.prime_words.Given as goal
 
 abbrev pub invariant-loop-q : goal.invariant-loop-q
 invariant-loop-q l =
-    (Markable l.n l.table l.marks × Marks (serving_prime l.n l.table) l.marks (3 ^ l.n)) × (3 ^ l.n ≤ length l.words) × (length l.words ≡ length l.initial.words) × (l.cubes ≡ 3 ^ l.n)
+    (Markable l.n l.table l.marks × Marks (serving_prime l.n l.table) l.marks (3 ^ l.n)) × (3 ^ l.n ≤ length l.words) ×
+    (length l.words ≡ length l.initial.words) × (l.cubes ≡ 3 ^ l.n)
     × (l.q ≤ l.cubes) × PrimeWords l.n l.table l.words l.q
 
 abbrev pub decreases-loop-q : goal.decreases-loop-q

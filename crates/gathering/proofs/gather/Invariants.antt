@@ -17,7 +17,8 @@ matches vs ws k c = row_matches (row_in vs ws k) c
 
 abbrev pub invariant-loop-i : goal.invariant-loop-i
 invariant-loop-i l =
-    (l.i ≤ length l.values) × ((k : ℕ) → k < l.i → not (formed l.n (row_in l.values l.cares k)) ≡ false) × HoldsExactly l.n (by_first (matches l.values l.cares) l.i) l.matched
+    (l.i ≤ length l.values) × ((k : ℕ) → k < l.i → not (formed l.n (row_in l.values l.cares k)) ≡ false) ×
+    HoldsExactly l.n (by_first (matches l.values l.cares) l.i) l.matched
 
 abbrev pub decreases-loop-i : goal.decreases-loop-i
 decreases-loop-i l = length l.values - l.i

@@ -7,7 +7,8 @@ use Rattle.keep_out.specs.Theorems.{exchanged_cell}
 use Rattle.keep_out.proofs.exchange.Given as goal
 
 abbrev pub invariant-loop-i : goal.invariant-loop-i
-invariant-loop-i l = (length l.table ≤ length l.initial.cells) × (l.i ≤ length l.table) × Puts (map exchanged_cell (take l.i l.table)) l.initial.cells 0 l.cells l.i
+invariant-loop-i l =
+    (length l.table ≤ length l.initial.cells) × (l.i ≤ length l.table) × Puts (map exchanged_cell (take l.i l.table)) l.initial.cells 0 l.cells l.i
 
 abbrev pub decreases-loop-i : goal.decreases-loop-i
 decreases-loop-i l = length l.table - l.i

@@ -31,10 +31,12 @@ copied_all a e xs src part s h d =
     ∙ sym (copied src (mid_of a (e - a) xs) refl ∙ ap (λ (l : List ℕ). src ++ l) (drop_of_length-le (mid_of a (e - a) xs) full) ∙ append-nil src)
 
 module _ (n : ℕ) (vs ws old : List ℕ) (f : Writable n vs ws old) where
-  module _ (begun part : List ℕ) (begun-is : begun ≡ sets old 0 (one_byte_count.bytes n (length vs))) (copied : Copied one_byte_count.size (behind vs) begun vs part) where
+  module _ (begun part : List ℕ) (begun-is : begun ≡ sets old 0 (one_byte_count.bytes n (length vs)))
+      (copied : Copied one_byte_count.size (behind vs) begun vs part) where
     with_values : put_mid one_byte_count.size (behind vs - one_byte_count.size) begun part ≡ sets old 0 (one_byte_count.bytes n (length vs) ++ vs)
     with_values =
-        put_copied one_byte_count.size (behind vs) begun vs part refl (omega (arith, f.room, ap length begun-is ∙ length-sets old 0 (one_byte_count.bytes n (length vs)))) copied
+        put_copied one_byte_count.size (behind vs) begun vs part refl
+            (omega (arith, f.room, ap length begun-is ∙ length-sets old 0 (one_byte_count.bytes n (length vs)))) copied
         ∙ ap (λ (l : List ℕ). sets l one_byte_count.size vs) begun-is ∙ sets_append old 0 (one_byte_count.bytes n (length vs)) vs
 
   with_cares : (valued part : List ℕ) → valued ≡ sets old 0 (one_byte_count.bytes n (length vs) ++ vs) → Copied (behind vs) (end vs) valued ws part

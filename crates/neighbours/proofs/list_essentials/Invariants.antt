@@ -9,7 +9,8 @@ use Rattle.neighbours.proofs.list_essentials.Given as goal
 
 abbrev pub invariant-loop-c : goal.invariant-loop-c
 invariant-loop-c l =
-    (l.n ≤ widest) × (length l.table ≡ 2 ^ l.n) × (3 ^ l.n ≤ length l.initial.out) × (l.c ≤ length l.table) × Puts (found_below l.n l.table l.c) l.initial.out 0 l.out l.count
+    (l.n ≤ widest) × (length l.table ≡ 2 ^ l.n) × (3 ^ l.n ≤ length l.initial.out) × (l.c ≤ length l.table) ×
+    Puts (found_below l.n l.table l.c) l.initial.out 0 l.out l.count
 
 abbrev pub decreases-loop-c : goal.decreases-loop-c
 decreases-loop-c l = length l.table - l.c

@@ -12,15 +12,16 @@ pub loop-i-init : goal.loop-i-init
 loop-i-init c = (search rules, search rules, collect_none _ _ _)
 
 pub offset_bounds-list-count : goal.offset_bounds-list-count
-offset_bounds-list-count c = omega (arith, (collect_le _ _ _ _ _ _ c.loop-i.invariant.2))
+offset_bounds-list-count c = omega (arith, collect_le _ _ _ _ _ _ c.loop-i.invariant.2)
 
 pub bounds-list-count : goal.bounds-list-count
 bounds-list-count c =
     let i = c.loop-i.invariant in
-    omega (arith, (collect_long _ _ _ _ _ _ c.loop-i.invariant.2), collect_counts _ _ _ _ _ _ i.2, count_found (member c.args.picked.now) _ c.args.rows (omega arith) (sym c.has.ensures ∙ c.if-has.true))
+    omega (arith, collect_long _ _ _ _ _ _ c.loop-i.invariant.2, collect_counts _ _ _ _ _ _ i.2,
+        count_found (member c.args.picked.now) _ c.args.rows (omega arith) (sym c.has.ensures ∙ c.if-has.true))
 
 pub overflow_add-count : goal.overflow_add-count
-overflow_add-count c = omega (arith, (collect_le _ _ _ _ _ _ c.loop-i.invariant.2))
+overflow_add-count c = omega (arith, collect_le _ _ _ _ _ _ c.loop-i.invariant.2)
 
 pub loop-i-preserved : goal.loop-i-preserved
 loop-i-preserved c =

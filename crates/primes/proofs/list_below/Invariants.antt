@@ -8,7 +8,8 @@ use Rattle.primes.proofs.list_below.Given as goal
 
 abbrev pub invariant-loop-q : goal.invariant-loop-q
 invariant-loop-q l =
-    (l.m ≤ 3 ^ widest) × (l.m ≤ length l.marks) × (l.m ≤ length l.initial.out) × (l.q ≤ l.m) × Collected (λ i. i) (is_marked l.marks) l.initial.out l.out l.q l.count
+    (l.m ≤ 3 ^ widest) × (l.m ≤ length l.marks) × (l.m ≤ length l.initial.out) × (l.q ≤ l.m) ×
+    Collected (λ i. i) (is_marked l.marks) l.initial.out l.out l.q l.count
 
 abbrev pub decreases-loop-q : goal.decreases-loop-q
 decreases-loop-q l = l.m - l.q

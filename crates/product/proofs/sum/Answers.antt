@@ -33,7 +33,8 @@ module _ (n value care : ℕ) (d : List ℕ) (p : ℕ) where
         → Puts (open_text (literals_from n row (i + 1) 1)) d p f r
     one g = puts_same (sym more) (puts_append h g)
 
-    one_room : p + length (sum_text (row_sum n row)) ≤ length d → i < n → m + length (text_behind (joint_at p m) (literals_of_variable n row (i + 1))) ≤ length e
+    one_room : p + length (sum_text (row_sum n row)) ≤ length d → i < n
+        → m + length (text_behind (joint_at p m) (literals_of_variable n row (i + 1))) ≤ length e
     one_room room l =
         omega (
           arith,

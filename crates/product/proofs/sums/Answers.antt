@@ -17,7 +17,8 @@ use Rattle.product.proofs.sums.Goals as goal
 -- the rows are the first of two arrays vs and ws, and the buffer is d
 module _ (n : ℕ) (vs ws : List ℕ) (count : ℕ) (d : List ℕ) where
   -- b is what is put where there is no row
-  no_row : {b : ℕ} {e : List ℕ} {r : ℕ} → Puts (b ∷ []) d 0 e r → b ∷ [] ≡ product_text [] → count ≡ 0 → Puts (excluding_text n (first_rows count vs ws)) d 0 e r
+  no_row : {b : ℕ} {e : List ℕ} {r : ℕ} → Puts (b ∷ []) d 0 e r → b ∷ [] ≡ product_text [] → count ≡ 0
+      → Puts (excluding_text n (first_rows count vs ws)) d 0 e r
   unfolding rows_of
   no_row h b-is none = puts_same (b-is ∙ ap (λ (k : ℕ). excluding_text n (first_rows k vs ws)) (sym none)) h
 

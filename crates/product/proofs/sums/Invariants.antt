@@ -8,7 +8,8 @@ use Rattle.product.proofs.sums.Given as goal
 
 abbrev pub invariant-loop-i : goal.invariant-loop-i
 invariant-loop-i l =
-    PrintableLine l.n l.values l.cares l.count l.initial.out × (l.count ≡ 0 → ⊥) × (l.i ≤ l.count) × Puts (sums_of l.n l.values l.cares l.i) l.initial.out 0 l.out l.place
+    PrintableLine l.n l.values l.cares l.count l.initial.out × (l.count ≡ 0 → ⊥) × (l.i ≤ l.count) ×
+    Puts (sums_of l.n l.values l.cares l.i) l.initial.out 0 l.out l.place
 
 abbrev pub decreases-loop-i : goal.decreases-loop-i
 decreases-loop-i l = l.count - l.i

@@ -8,7 +8,8 @@ use Rattle.reduction.proofs.column_dominance.drop_columns.Given as goal
 
 abbrev pub invariant-loop-d : goal.invariant-loop-d
 invariant-loop-d l =
-    (l.d ≤ column_limit) × (l.d < column_limit → In l.kept l.d) × ((x : ℕ) → In l.kept x → In l.undecided x) × ((weights : List ℕ) → Keeps l.words weights l.live l.undecided l.live l.kept)
+    (l.d ≤ column_limit) × (l.d < column_limit → In l.kept l.d) × ((x : ℕ) → In l.kept x → In l.undecided x) ×
+    ((weights : List ℕ) → Keeps l.words weights l.live l.undecided l.live l.kept)
 
 abbrev pub decreases-loop-d : goal.decreases-loop-d
 decreases-loop-d l = column_limit - l.d

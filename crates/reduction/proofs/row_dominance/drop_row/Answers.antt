@@ -9,4 +9,5 @@ returns-then-is_empty c =
     drop_useless c.args.words.now c.args.weights.now _ _ _ _ c.without_row.ensures _ both (c.is_empty.ensures.none c.if-is_empty.true)
 
 pub returns-then-j-row_count : goal.returns-then-j-row_count
-returns-then-j-row_count c = drop_dominated _ _ _ _ _ _ c.without_row-then-j-row_count.ensures _ (c.dominator-j.ensures (omega (arith, c.row_count.ensures, c.if-j-row_count.true)))
+returns-then-j-row_count c = drop_dominated _ _ _ _ _ _ c.without_row-then-j-row_count.ensures _
+    (c.dominator-j.ensures (omega (arith, c.row_count.ensures, c.if-j-row_count.true)))

@@ -64,23 +64,21 @@ module _ (n count b : ℕ) (cells : List ℕ) (h : Room (Run n count) cells) whe
           let last : count ≡ most_cells = omega (arith, h.most) in
           let one : List ℕ = cell_of b ∷ [] in
           let all : take count cells ≡ keep (take count cells ++ one) =
-          sym (take-append-le most_cells (take count cells) one (omega (arith, length_is)) ∙ take_all most_cells (take count cells) (omega (arith, length_is))) in
+          sym (take-append-le most_cells (take count cells) one (omega (arith, length_is))
+              ∙ take_all most_cells (take count cells) (omega (arith, length_is))) in
           takes_one (Run n count) (Run n count) cells b (ap (in_run n) all ∙ by_cell true (le-leb x 2 l)) h
 
 pub returns-then-byte-eq10 : goal.returns-then-byte-eq10
-returns-then-byte-eq10 c = let s = c in ended _ _ _ s.args.cells.now s.requires c.if-byte-eq10.true
+returns-then-byte-eq10 c = ended _ _ _ c.args.cells.now c.requires c.if-byte-eq10.true
 
 pub returns-then-cell-gt2 : goal.returns-then-cell-gt2
 returns-then-cell-gt2 c =
-    let s = c in
-    no_cell _ _ _ s.args.cells.now s.requires _ c.cell_of-cell.ensures c.if-byte-eq10.false c.if-cell-gt2.true
+    no_cell _ _ _ c.args.cells.now c.requires _ c.cell_of-cell.ensures c.if-byte-eq10.false c.if-cell-gt2.true
 
 pub returns-then-count-lt-MOST_CELLS : goal.returns-then-count-lt-MOST_CELLS
 returns-then-count-lt-MOST_CELLS c =
-    let s = c in
-    stored _ _ _ s.args.cells.now s.requires _ c.cell_of-cell.ensures c.if-byte-eq10.false c.if-cell-gt2.false c.if-count-lt-MOST_CELLS.true
+    stored _ _ _ c.args.cells.now c.requires _ c.cell_of-cell.ensures c.if-byte-eq10.false c.if-cell-gt2.false c.if-count-lt-MOST_CELLS.true
 
 pub returns : goal.returns
 returns c =
-    let s = c in
-    full _ _ _ s.args.cells.now s.requires _ c.cell_of-cell.ensures c.if-byte-eq10.false c.if-cell-gt2.false c.if-count-lt-MOST_CELLS.false
+    full _ _ _ c.args.cells.now c.requires _ c.cell_of-cell.ensures c.if-byte-eq10.false c.if-cell-gt2.false c.if-count-lt-MOST_CELLS.false

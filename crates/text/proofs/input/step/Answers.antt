@@ -10,7 +10,8 @@ use Rattle.text.proofs.Readings.{takes_one}
 use Rattle.text.proofs.input.step.Goals as goal
 
 -- a reading known to be of one variant
-known_as : {reading variant next : Reading} {b : ℕ} {old new : List ℕ} → reading ≡ variant → Takes variant old (b ∷ []) next new → Takes reading old (b ∷ []) next new
+known_as : {reading variant next : Reading} {b : ℕ} {old new : List ℕ} → reading ≡ variant → Takes variant old (b ∷ []) next new
+    → Takes reading old (b ∷ []) next new
 known_as {next = next} {b = b} {old = old} {new = new} e h = subst⁻¹ (λ (r : Reading). Takes r old (b ∷ []) next new) e h
 
 -- nothing may follow the end, or a wrong byte

@@ -9,7 +9,8 @@ use Rattle.text.proofs.output.row.Given as goal
 
 abbrev pub invariant-loop-i : goal.invariant-loop-i
 invariant-loop-i l =
-    (l.n ≤ widest) × (l.at + (l.n + 1) ≤ length l.initial.out) × (l.i ≤ l.n) × Puts (tabulate l.i 1 (character_of_variable l.n (record { value = l.value; care = l.care }))) l.initial.out l.at l.out (l.at + l.i)
+    (l.n ≤ widest) × (l.at + (l.n + 1) ≤ length l.initial.out) × (l.i ≤ l.n) ×
+    Puts (tabulate l.i 1 (character_of_variable l.n (record { value = l.value; care = l.care }))) l.initial.out l.at l.out (l.at + l.i)
 
 abbrev pub decreases-loop-i : goal.decreases-loop-i
 decreases-loop-i l = l.n - l.i

@@ -8,7 +8,8 @@ use Rattle.text.proofs.output.rows.Given as goal
 
 abbrev pub invariant-loop-i : goal.invariant-loop-i
 invariant-loop-i l =
-    Printable l.n l.values l.cares l.count l.initial.out × (l.i ≤ l.count) × Puts (list_lines l.n (first_rows l.i l.values l.cares)) l.initial.out 0 l.out l.place
+    Printable l.n l.values l.cares l.count l.initial.out × (l.i ≤ l.count) ×
+    Puts (list_lines l.n (first_rows l.i l.values l.cares)) l.initial.out 0 l.out l.place
 
 abbrev pub decreases-loop-i : goal.decreases-loop-i
 decreases-loop-i l = l.count - l.i

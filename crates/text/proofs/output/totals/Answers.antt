@@ -3,7 +3,4 @@ use Rattle.numbers.proofs.Lent.{puts_append}
 use Rattle.text.proofs.output.totals.Goals as goal
 
 pub returns : goal.returns
-returns c =
-    let bits = c in
-    let rows = bits in
-    puts_append (puts_append rows.number-next.ensures bits.number-last.ensures) c.line_feed.ensures
+returns c = puts_append (puts_append c.number-next.ensures c.number-last.ensures) c.line_feed.ensures
