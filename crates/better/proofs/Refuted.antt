@@ -1,4 +1,4 @@
--- Wrong answers of the call that builds both lists, each on a named table: a list of the other kind is better, or is as good though the keep_out list was
+-- Wrong answers of the call that builds both lists, each on a named table: a list of the other kind is better, or is as good though the keep-out list was
 -- written; the counts are not those of the list; or a place is changed that should not be. Assumes nothing.
 use mathlib.Core.Path.{◌≡◌, refl, ap}
 use mathlib.Core.Logic.{⊎_elim}
@@ -16,12 +16,12 @@ use Rattle.better.specs.declared.Built.{Built}
 use Rattle.better.specs.declared.Built.TheVariants.{Ordinary, KeepOut}
 use Rattle.better.proofs.Theorems.{better_held}
 
--- 000 and 011 are barred, all others are wanted: the ordinary lists have at least 3 rows, with 5 bits, and the keep_out list has 2 rows, with 6
+-- 000 and 011 are barred, all others are wanted: the ordinary lists have at least 3 rows, with 5 bits, and the keep-out list has 2 rows, with 6
 abbrev fewer_rows_more_bits : List ℕ
 fewer_rows_more_bits = 0 ∷ 1 ∷ 1 ∷ 0 ∷ 1 ∷ 1 ∷ 1 ∷ 1 ∷ []
 
 module _ (values cares values' cares' : List ℕ) where
-  -- the ordinary list, 1- and -1, where the keep_out list, 00, has fewer rows
+  -- the ordinary list, 1- and -1, where the keep-out list, 00, has fewer rows
   pub ordinary_always : Builds 2 all_but_zero values cares values' cares' (Ordinary 2 2) → ⊥
   unfolding cover_literals ones
   ordinary_always p =
@@ -35,21 +35,21 @@ module _ (values cares values' cares' : List ℕ) where
       ⊎_elim (λ l. omega arith) (λ e. omega (arith, e.0))
       ((better_held 3 fewer_rows_more_bits values cares values' cares').no_better_keep_out 3 5 p out (right_keeps 3 fewer_rows_more_bits refl out tt tt))
 
-  -- the keep_out list at equal counts: code 0 barred, code 1 wanted
+  -- the keep-out list at equal counts: code 0 barred, code 1 wanted
   pub keep_out_at_equal_counts : Builds 1 (0 ∷ 1 ∷ []) values cares values' cares' (KeepOut 1 1) → ⊥
   unfolding every row_matches formed each_row cover_matches implements cover_literals ones
   keep_out_at_equal_counts p =
       ⊎_elim (λ l. omega arith) (λ e. omega (arith, e.1))
       ((better_held 1 (0 ∷ 1 ∷ []) values cares values' cares').worse_ordinary 1 1 p (record { value = 1; care = 1 } ∷ []) tt tt)
 
-  -- the keep_out list with the counts of the ordinary one
+  -- the keep-out list with the counts of the ordinary one
   pub counts_of_the_other : Builds 2 all_but_zero values cares values' cares' (KeepOut 2 2) → ⊥
   unfolding cover_literals ones
   counts_of_the_other p =
       let h = (better_held 2 all_but_zero values cares values' cares').keep_out 2 2 p in
       ⊎_elim (λ l. omega (arith, h.held.row_count)) (λ e. omega (arith, e.0, h.held.row_count)) (h.minimum.least zero_alone zero_kept_out)
 
-  -- the keep_out list answered and a row of the ordinary one, 1-, written first: it does not match code 0
+  -- the keep-out list answered and a row of the ordinary one, 1-, written first: it does not match code 0
   pub ordinary_row_written : Builds 2 all_but_zero values cares (2 ∷ values') (2 ∷ cares') (KeepOut 1 2) → ⊥
   unfolding row_matches cover_matches rows_of
   ordinary_row_written p =

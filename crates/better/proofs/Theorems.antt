@@ -89,7 +89,7 @@ module _ (n : ℕ) (t values cares values' cares' : List ℕ) (rows bits : ℕ) 
         subst⁻¹ (λ (x : Totals). NoBetter (length rival) (cover_literals n rival) x.rows x.bits) totals_are
         (no_better_than_both ((p.is_excluding told.0).minimum.least rival k) (not_better (totals_of n p.excluding) (totals_of n p.list) chosen.0))
 
-  -- ---- the keep_out list
+  -- ---- the keep-out list
 
   module _ (p : Builds n t values cares values' cares' (KeepOut rows bits)) where
     told_excluding : (refusal ≡ 0) × (record { kind = keep_out; totals = totals } ≡ said_of n (both n p.list p.excluding))

@@ -17,11 +17,11 @@ Worse rivalRows rivalBits rows bits = (rows < rivalRows) ⊎ ((rows ≡ rivalRow
 
 -- what a call tells, whatever the table and the arrays
 pub record BetterHeld (n : ℕ) (t values cares values' cares' : List ℕ) : Type 0 where
-  -- an ordinary list is held as Plan's is, and no keep_out list is better
+  -- an ordinary list is held as Plan's is, and no keep-out list is better
   pub ordinary : (rows bits : ℕ) → Builds n t values cares values' cares' (Ordinary rows bits) → Held n t values cares values' cares' rows bits
   pub no_better_keep_out : (rows bits : ℕ) → Builds n t values cares values' cares' (Ordinary rows bits) → (rival : Cover) → KeepsOut n t rival
       → NoBetter (length rival) (cover_literals n rival) rows bits
-  -- a keep_out list is held as that of the keep_out call is, and every ordinary list is worse
+  -- a keep-out list is held as that of the keep-out call is, and every ordinary list is worse
   pub keep_out : (rows bits : ℕ) → Builds n t values cares values' cares' (KeepOut rows bits) → HeldKeepOut n t values cares values' cares' rows bits
   pub worse_ordinary : (rows bits : ℕ) → Builds n t values cares values' cares' (KeepOut rows bits) → (rival : Cover) → T (all_formed n rival)
       → T (implements n t rival) → Worse (length rival) (cover_literals n rival) rows bits

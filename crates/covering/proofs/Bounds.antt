@@ -26,15 +26,15 @@ pub weight-append : (w : ℕ → ℕ) (L M : List ℕ) → weight w (L ++ M) ≡
 weight-append w [] M = omega arith
 weight-append w (x ∷ L) M = omega (arith, weight-append w L M)
 
-weight_le : {A : ℕ → Type 0} {a b : ℕ → ℕ} → ((i : ℕ) → A i → a i ≤ b i) → (L : List ℕ) → Within A L → weight a L ≤ weight b L
+pub weight_le : {A : ℕ → Type 0} {a b : ℕ → ℕ} → ((i : ℕ) → A i → a i ≤ b i) → (L : List ℕ) → Within A L → weight a L ≤ weight b L
 weight_le f [] l = omega arith
 weight_le f (x ∷ L) l = omega (arith, f x l.0, weight_le f L l.1)
 
-weight-add : (a b : ℕ → ℕ) (L : List ℕ) → weight (λ i. a i + b i) L ≡ weight a L + weight b L
+pub weight-add : (a b : ℕ → ℕ) (L : List ℕ) → weight (λ i. a i + b i) L ≡ weight a L + weight b L
 weight-add a b [] = refl
 weight-add a b (x ∷ L) = omega (arith, weight-add a b L)
 
-weight_times : (d : ℕ) (a : ℕ → ℕ) (L : List ℕ) → weight (λ i. d * a i) L ≡ d * weight a L
+pub weight_times : (d : ℕ) (a : ℕ → ℕ) (L : List ℕ) → weight (λ i. d * a i) L ≡ d * weight a L
 weight_times d a [] = omega arith
 weight_times d a (x ∷ L) = omega (arith, weight_times d a L)
 

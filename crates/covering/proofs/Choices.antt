@@ -1,21 +1,19 @@
 -- Branch and bound: what an answer below a limit follows from, the two branches of a row included, and that the answer of a whole search is a minimum
 -- cover. Assumes nothing.
-use mathlib.Core.Path.{◌≡◌, refl, sym, ap, subst, ◌∙◌}
-use mathlib.Core.List.{[], ◌∷◌}
-use mathlib.Core.Logic.{◌⊎◌, inl, inr}
-use mathlib.Core.Bool.{Bool, true, false, cond, ◌||◌}
-use Prim.Native.Nat.{ℕ, zero, suc, ◌+◌, ◌*◌, ◌≤◌, ◌<◌}
-use native.Mathlib.Decide.{ℕ_discrete}
+use mathlib.Core.Path.{◌≡◌, refl, sym, ◌∙◌}
+use mathlib.Core.Bool.{Bool, false, ◌||◌}
+use Prim.Native.Nat.{ℕ, ◌+◌, ◌*◌, ◌≤◌, ◌<◌}
 use native.Mathlib.Omega.{arith}
 use lib.Dec.{ltb}
-use borrow.Author.Tests.{ltb-true, lt-ltb}
+use borrow.Author.Tests.{lt-ltb}
 use Rattle.numbers.specs.Below.{those}
-use Rattle.covering.specs.Sum.{if_set, sum}
-use Rattle.covering.specs.Weighted.{Within, Hits, weight, AtLeast, LeastCover, SetCovers, total}
+use Rattle.covering.specs.Sum.{if_set}
+use Rattle.covering.specs.Weighted.{weight, AtLeast, LeastCover, SetCovers}
 use Rattle.covering.specs.Search.{none, Reduced, Answers}
 use Rattle.numbers.proofs.Flags.{not_set}
 use Rattle.covering.proofs.Sums.{sum_most, sum_skip, if_set_le, if_set_false}
-use Rattle.covering.proofs.Bounds.{within_mono, within-append, weight-append, hits_append, nothing, smaller, branch}
+use Rattle.covering.proofs.Bounds.{within_mono, nothing, smaller, branch}
+use Rattle.covering.proofs.Sets.{rows_within, rows_hit, rows_weight}
 use Rattle.covering.proofs.Reductions.{cover_same, cover_nothing}
 
 module _ (cov : ℕ → ℕ → Type 0) (w : ℕ → ℕ) (n : ℕ) where
@@ -52,41 +50,14 @@ module _ (cov : ℕ → ℕ → Type 0) (w : ℕ → ℕ) (n : ℕ) where
       → ((c : ℕ) → U' c → U c × (cov r c → ⊥)) → AtLeast cov w A' U' k₁ → limit ≤ w r + k₁ → Answers cov w n A' U limit k p → Answers cov w n A U limit k p
   answer_without r fewer rest left b l f = answer_fewer fewer (λ x m y. branch cov w r rest x left b y (omega arith) (omega arith)) f
 
--- ---- a set as a selection
-
-rows_within : (A : ℕ → Type 0) (n : ℕ) (p : ℕ → Bool) → ((i : ℕ) → p i ≡ true → A i) → Within A (those n p)
-unfolding those
-rows_within A zero p f = tt
-rows_within A (suc n) p f = within-append A (those n p) (cond (p n) (n ∷ []) []) (rows_within A n p f) (last (p n) refl)
-  where
-    last : (b : Bool) → p n ≡ b → Within A (cond b (n ∷ []) [])
-    last true e = (f n e, tt)
-    last false e = tt
-
-rows_hit : (cov : ℕ → ℕ → Type 0) (c n : ℕ) (p : ℕ → Bool) (i : ℕ) → i < n → p i ≡ true → cov i c → Hits cov (those n p) c
-unfolding those
-rows_hit cov c zero p i l e h = absurd (omega arith)
-rows_hit cov c (suc n) p i l e h = hits_append cov (those n p) (cond (p n) (n ∷ []) []) c (go (ℕ_discrete i n) (λ k. rows_hit cov c n p i k e h))
-  where
-    go : Dec (i ≡ n) → (i < n → Hits cov (those n p) c) → Hits cov (those n p) c ⊎ Hits cov (cond (p n) (n ∷ []) []) c
-    go (yes d) ih = inr (subst (λ (b : Bool). Hits cov (cond b (n ∷ []) []) c) (sym (ap p (sym d) ∙ e)) (inl (subst (λ (x : ℕ). cov x c) d h)))
-    go (no d) ih = inl (ih (omega arith))
-
-rows_weight : (w : ℕ → ℕ) (n : ℕ) (p : ℕ → Bool) → weight w (those n p) ≡ total w n p
-unfolding those sum
-rows_weight w zero p = refl
-rows_weight w (suc n) p = omega (arith, weight-append w (those n p) (cond (p n) (n ∷ []) []), rows_weight w n p, last (p n))
-  where
-    last : (b : Bool) → weight w (cond b (n ∷ []) []) ≡ if_set b (w n)
-    last true = omega arith
-    last false = refl
+-- ---- a whole search
 
 -- An answer is a minimum cover, where the rows are those below n, each column has one, and all of them together weigh less than the limit.
 pub minimum : (cov : ℕ → ℕ → Type 0) (w : ℕ → ℕ) (N n m : ℕ) {A U : ℕ → Type 0} {limit k : ℕ} {p : ℕ → Bool} → n ≤ N → ((i : ℕ) → A i → i < n) → ((i : ℕ) → i < n → A i)
     → ((c : ℕ) → U c → (i : ℕ) × (i < n) × cov i c) → ((i : ℕ) → w i ≤ m) → n * m < limit → Answers cov w N A U limit k p
     → LeastCover cov w (λ i. i < n) U (those n p) k
 minimum cov w N n m {A} {U} {limit} {k} {p} le below all row most l f = record {
-  within = rows_within (λ i. i < n) n p (λ i e. below i (found.live i e));
+  within = rows_within (λ i. i < n) n p (λ i l e. l);
   covers = λ c u. let t = found.covers c u in rows_hit cov c n p t.0 (below t.0 (found.live t.0 t.1)) t.1 t.2;
   weighs = rows_weight w n p ∙ sym (sum_skip n N le (λ i h o. if_set_false (w i) (past i h))) ∙ found.weighs;
   least = λ M h s. f.low.bound M (within_mono all M h) s;
@@ -102,7 +73,7 @@ minimum cov w N n m {A} {U} {limit} {k} {p} le below all row most l f = record {
     found = f.cover (omega (
       arith,
       light,
-      f.low.bound (those n every) (rows_within A n every (λ i e. all i (ltb-true i n e)))
+      f.low.bound (those n every) (rows_within A n every (λ i l e. all i l))
           (λ c u. let t = row c u in rows_hit cov c n every t.0 t.1 (lt-ltb t.0 n t.1) t.2),
     ))
 

@@ -19,22 +19,10 @@ use Rattle.covering.specs.Search.{only}
 use Rattle.covering.specs.Inequalities.{Has, NoRow, OnlyRow, Rival, Valid, Needs, AtLeastWith, excess}
 use Rattle.numbers.proofs.Flags.{clash, either_of, left_of, right_of}
 use Rattle.covering.proofs.Sums.{sum_mono, sum-add, sum_skip, if_set_true, if_set_false, if_set_le}
-use Rattle.covering.proofs.Bounds.{within_mono, hitter}
+use Rattle.covering.proofs.Bounds.{within_mono, weight_le, weight-add, weight_times, hitter}
 use Rattle.covering.proofs.Sets.{rows_within, rows_hit, rows_weight}
 
 -- ---- selections
-
-weight_le : {A : ℕ → Type 0} {a b : ℕ → ℕ} → ((i : ℕ) → A i → a i ≤ b i) → (L : List ℕ) → Within A L → weight a L ≤ weight b L
-weight_le f [] l = omega arith
-weight_le f (x ∷ L) l = omega (arith, f x l.0, weight_le f L l.1)
-
-weight-add : (a b : ℕ → ℕ) (L : List ℕ) → weight (λ i. a i + b i) L ≡ weight a L + weight b L
-weight-add a b [] = refl
-weight-add a b (x ∷ L) = omega (arith, weight-add a b L)
-
-weight_times : (d : ℕ) (a : ℕ → ℕ) (L : List ℕ) → weight (λ i. d * a i) L ≡ d * weight a L
-weight_times d a [] = omega arith
-weight_times d a (x ∷ L) = omega (arith, weight_times d a L)
 
 -- some row of a cover weighs y or more, where each row for a column does
 hit_weighs : (cov : ℕ → ℕ → Type 0) {A : ℕ → Type 0} {a : ℕ → ℕ} (c y : ℕ) → ((i : ℕ) → A i → cov i c → y ≤ a i) → (L : List ℕ) → Within A L → Hits cov L c

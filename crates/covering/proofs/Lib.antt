@@ -1,8 +1,8 @@
 -- The laws of weighted covers.
 pub mod Sums
 pub mod Bounds
+pub mod Sets
 pub mod Reductions
 pub mod Choices
-pub mod Sets
 pub mod Inequalities
 pub mod Exchanges

@@ -30,8 +30,7 @@ module _ (n : ℕ) (t old cubes : List ℕ) (rows : ℕ) (w : n ≤ widest) (lon
   are_cubes i l = subst⁻¹ (λ (q : ℕ). q < 3 ^ n) (at i l) (those_at (serving_prime n t) (3 ^ n) i (omega (arith, rows_are))).0
 
 pub list_serving_primes-rows-requires : goal.list_serving_primes-rows-requires
-list_serving_primes-rows-requires c = let s = c in
-    (c.requires.0, c.requires.1, cubes_most _ c.requires.0)
+list_serving_primes-rows-requires c = (c.requires.0, c.requires.1, cubes_most _ c.requires.0)
 
 pub fill_words-requires : goal.fill_words-requires
 fill_words-requires c =

@@ -25,5 +25,4 @@ row_columns-requires c = omega (arith, c.requires.1, codes_most _ c.requires.0)
 
 pub returns : goal.returns
 returns c =
-    let s = c in
-    by_row s.args.n s.args.table.now s.args.q _ _ _ s.requires.1 s.requires.2 c.value.ensures c.care.ensures c.row_columns.ensures
+    by_row c.args.n c.args.table.now c.args.q _ _ _ c.requires.1 c.requires.2 c.value.ensures c.care.ensures c.row_columns.ensures

@@ -15,14 +15,14 @@ words_long n m long w e l = omega (arith, cubes_most n w)
 
 pub prime_words-requires : goal.prime_words-requires
 prime_words-requires c =
-    let s = c in (
+    (
       record {
-        width = s.requires.width;
-        cells = s.requires.cells;
-        enough = subst⁻¹ (λ (i : ℕ). 3 ^ s.args.n ≤ i) c.mark_serving_primes.auto.marks s.requires.enough;
+        width = c.requires.width;
+        cells = c.requires.cells;
+        enough = subst⁻¹ (λ (i : ℕ). 3 ^ c.args.n ≤ i) c.mark_serving_primes.auto.marks c.requires.enough;
       },
       c.mark_serving_primes.ensures.marks,
-      cubes_most _ s.requires.width,
+      cubes_most _ c.requires.width,
     )
 
 pub sole_columns-sole-requires : goal.sole_columns-sole-requires

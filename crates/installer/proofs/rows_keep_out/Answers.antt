@@ -1,4 +1,4 @@
--- `installer::rows_keep_out` meets its contract: the keep_out call's promise, and the number of its answer. Assumes nothing.
+-- `installer::rows_keep_out` meets its contract: the keep-out call's promise, and the number of its answer. Assumes nothing.
 use mathlib.Core.Path.{ap, ◌∙◌}
 use Rattle.keep_out.proofs.Theorems.{plans_exchanged}
 use Rattle.installer.specs.Numbers.{read_plan}

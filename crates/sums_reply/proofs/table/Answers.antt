@@ -1,4 +1,4 @@
--- `sums_reply::table` meets its contract: the answer of the keep_out call is printed. Assumes nothing.
+-- `sums_reply::table` meets its contract: the answer of the keep-out call is printed. Assumes nothing.
 use lib.Dec.{lit≤}
 use Rattle.sums_reply.proofs.Printed.{printable, line_printed, keep_out_refusal_printed}
 use Rattle.sums_reply.proofs.table.Goals as goal
