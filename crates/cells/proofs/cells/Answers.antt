@@ -33,7 +33,7 @@ module _ (n q : ℕ) (d : List ℕ) where
     large : r ≤ q → Ends d (Refused 8)
     large h =
         listed_refused 7 (first_passes (bad_width n) 1 past_width good
-            ∙ first_holds (bad_cube n q) 8 past_cube (le-leb (3 ^ n) q (subst (λ (i : ℕ). i ≤ q) r-is h)))
+        ∙ first_holds (bad_cube n q) 8 past_cube (le-leb (3 ^ n) q (subst (λ (i : ℕ). i ≤ q) r-is h)))
 
     module _ (l : q < r) (w : ℕ) (w-is : w ≡ 2 ^ n) where
       below : q < 3 ^ n
@@ -68,5 +68,5 @@ write_codes-requires c =
 pub returns : goal.returns
 returns c =
     done c.args.n c.args.q c.args.out.now
-        (sym c.bad_width.ensures ∙ c.if-bad_width.false) _ c.cubes.ensures c.if-cubes-q.false _ c.codes.ensures c.if-out-codes.false
+    (sym c.bad_width.ensures ∙ c.if-bad_width.false) _ c.cubes.ensures c.if-cubes-q.false _ c.codes.ensures c.if-out-codes.false
     c.write_codes.ensures

@@ -14,24 +14,24 @@ words_long : (n m long : ℕ) → n ≤ widest → m ≡ 3 ^ n → long ≡ 3 ^ 
 words_long n m long w e l = omega (arith, cubes_most n w)
 
 pub prime_words-requires : goal.prime_words-requires
-prime_words-requires c =
-    (
-      record {
-        width = c.requires.width;
-        cells = c.requires.cells;
-        enough = subst⁻¹ (λ (i : ℕ). 3 ^ c.args.n ≤ i) c.mark_serving_primes.auto.marks c.requires.enough;
-      },
-      c.mark_serving_primes.ensures.marks,
-      cubes_most _ c.requires.width,
-    )
+prime_words-requires c = (
+  record {
+    width = c.requires.width;
+    cells = c.requires.cells;
+    enough = subst⁻¹ (λ (i : ℕ). 3 ^ c.args.n ≤ i) c.mark_serving_primes.auto.marks c.requires.enough;
+  },
+  c.mark_serving_primes.ensures.marks,
+  cubes_most _ c.requires.width,
+)
 
 pub sole_columns-sole-requires : goal.sole_columns-sole-requires
 sole_columns-sole-requires c = words_long c.args.n _ _ c.requires.width c.cubes-cubes.ensures c.prime_words.auto.words
 
 pub mark_holders-requires : goal.mark_holders-requires
-mark_holders-requires c =
-    (words_long c.args.n _ _ c.requires.width c.cubes-cubes.ensures c.prime_words.auto.words,
-        omega (arith, c.cubes-cubes.ensures, c.mark_serving_primes.auto.marks, c.requires.enough))
+mark_holders-requires c = (
+  words_long c.args.n _ _ c.requires.width c.cubes-cubes.ensures c.prime_words.auto.words,
+  omega (arith, c.cubes-cubes.ensures, c.mark_serving_primes.auto.marks, c.requires.enough),
+)
 
 pub returns : goal.returns
 returns c q l =
@@ -43,4 +43,4 @@ returns c q l =
     h.is
     ∙ ap flag
     (holder_is_essential s.n s.table.now words sole c.prime_words.ensures
-        (subst (λ (m : ℕ). SoleColumns words m sole) e c.sole_columns-sole.ensures) q l h.held h.tells)
+    (subst (λ (m : ℕ). SoleColumns words m sole) e c.sole_columns-sole.ensures) q l h.held h.tells)

@@ -36,7 +36,7 @@ module _ (n : ℕ) (vs ws old : List ℕ) (f : Writable n vs ws old) where
     with_values : put_mid one_byte_count.size (behind vs - one_byte_count.size) begun part ≡ sets old 0 (one_byte_count.bytes n (length vs) ++ vs)
     with_values =
         put_copied one_byte_count.size (behind vs) begun vs part refl
-            (omega (arith, f.room, ap length begun-is ∙ length-sets old 0 (one_byte_count.bytes n (length vs)))) copied
+        (omega (arith, f.room, ap length begun-is ∙ length-sets old 0 (one_byte_count.bytes n (length vs)))) copied
         ∙ ap (λ (l : List ℕ). sets l one_byte_count.size vs) begun-is ∙ sets_append old 0 (one_byte_count.bytes n (length vs)) vs
 
   with_cares : (valued part : List ℕ) → valued ≡ sets old 0 (one_byte_count.bytes n (length vs) ++ vs) → Copied (behind vs) (end vs) valued ws part

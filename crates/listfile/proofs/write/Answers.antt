@@ -58,7 +58,7 @@ module _ (n : ℕ) (vs ws old : List ℕ) where
         small : length old < m → Ends old (Refused 4)
         small h =
             listed_refused 3 (left ∙ first_holds (short (length old) (file_length one_byte_count (length (rows_of vs ws)))) 4 []
-                (lt-ltb _ _ (subst (λ (i : ℕ). length old < i) needed h)))
+            (lt-ltb _ _ (subst (λ (i : ℕ). length old < i) needed h)))
 
         module _ (h : m ≤ length old) where
           fits : Writable n vs ws old
@@ -69,24 +69,24 @@ module _ (n : ℕ) (vs ws old : List ℕ) where
               let long : m ≡ length (file_of one_byte_count n vs ws) = m_is ∙ sym (file_length_lem n vs ws list.equal) in
               listed_done
               (left ∙ first_passes (short (length old) (file_length one_byte_count (length (rows_of vs ws)))) 4 []
-                  (le-ltb _ _ (subst (λ (i : ℕ). i ≤ length old) needed h)))
+              (le-ltb _ _ (subst (λ (i : ℕ). i ≤ length old) needed h)))
               (record { behind = long ∙ sym (zero-add (length (file_of one_byte_count n vs ws))); places = New-is }) (subst (λ (i : ℕ). i ≤ length old) long h)
 
 pub file_length-length-requires : goal.file_length-length-requires
 file_length-length-requires c =
     few c.args.n c.args.values.now c.args.cares.now c.args.out.now (sym c.bad_width.ensures ∙ c.if-bad_width.false)
-        (sym c.list_refusal-k.ensures ∙ c.if-k-ne0.false)
+    (sym c.list_refusal-k.ensures ∙ c.if-k-ne0.false)
 
 pub returns-then-out-length : goal.returns-then-out-length
 returns-then-out-length c =
     small c.args.n c.args.values.now c.args.cares.now c.args.out.now (sym c.bad_width.ensures ∙ c.if-bad_width.false)
-        (sym c.list_refusal-k.ensures ∙ c.if-k-ne0.false) _
+    (sym c.list_refusal-k.ensures ∙ c.if-k-ne0.false) _
     c.file_length-length.ensures c.if-out-length.true
 
 pub put_file-requires : goal.put_file-requires
 put_file-requires c =
     fits c.args.n c.args.values.now c.args.cares.now c.args.out.now (sym c.bad_width.ensures ∙ c.if-bad_width.false)
-        (sym c.list_refusal-k.ensures ∙ c.if-k-ne0.false) _
+    (sym c.list_refusal-k.ensures ∙ c.if-k-ne0.false) _
     c.file_length-length.ensures c.if-out-length.false
 
 pub returns : goal.returns

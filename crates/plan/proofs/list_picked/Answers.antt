@@ -17,8 +17,12 @@ offset_bounds-list-count c = omega (arith, collect_le _ _ _ _ _ _ c.loop-i.invar
 pub bounds-list-count : goal.bounds-list-count
 bounds-list-count c =
     let i = c.loop-i.invariant in
-    omega (arith, collect_long _ _ _ _ _ _ c.loop-i.invariant.2, collect_counts _ _ _ _ _ _ i.2,
-        count_found (member c.args.picked.now) _ c.args.rows (omega arith) (sym c.has.ensures ∙ c.if-has.true))
+    omega (
+      arith,
+      collect_long _ _ _ _ _ _ c.loop-i.invariant.2,
+      collect_counts _ _ _ _ _ _ i.2,
+      count_found (member c.args.picked.now) _ c.args.rows (omega arith) (sym c.has.ensures ∙ c.if-has.true),
+    )
 
 pub overflow_add-count : goal.overflow_add-count
 overflow_add-count c = omega (arith, collect_le _ _ _ _ _ _ c.loop-i.invariant.2)

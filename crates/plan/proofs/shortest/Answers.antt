@@ -32,7 +32,7 @@ overflow_mul-result c =
 pub overflow_sub-result : goal.overflow_sub-result
 overflow_sub-result c =
     subst⁻¹ (λ (k : ℕ). row_weight * k ≤ c.lightest-found.result.weight)
-        (picked_count c.lightest-found.result.picked c.build-chart.result.cubes c.build-chart.result.rows c.list_picked-count.ensures)
+    (picked_count c.lightest-found.result.picked c.build-chart.result.cubes c.build-chart.result.rows c.list_picked-count.ensures)
     (weight_most c.args.n c.args.table.now c.requires.0 c.requires.1 _ c.build-chart.ensures _ c.row_columns.ensures _ c.lightest-found.ensures)
 
 pub returns : goal.returns

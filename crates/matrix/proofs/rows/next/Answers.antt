@@ -10,5 +10,9 @@ pub returns-then-c-lt-BITS : goal.returns-then-c-lt-BITS
 returns-then-c-lt-BITS c = next_past _ _ _ _ _ c.loop-i.invariant.2 c.next-c.ensures c.requires.0 c.if-found-end.false
 
 pub loop-i-preserved : goal.loop-i-preserved
-loop-i-preserved c = (omega arith, omega arith, λ j l m. passed_word _ _ c.args.end _ _ c.loop-i.invariant.2 c.next-c.ensures j l
-    (omega (arith, c.if-c-lt-BITS.false)))
+loop-i-preserved c = (
+  omega arith,
+  omega arith,
+  λ j l m. passed_word _ _ c.args.end _ _ c.loop-i.invariant.2 c.next-c.ensures j l
+      (omega (arith, c.if-c-lt-BITS.false)),
+)

@@ -27,7 +27,7 @@ module _ (b : ℕ) where
     width h cells p =
         let e : is_digit b ≡ true = ap₂ ◌&&◌ (le-leb 48 b l) (le-leb b 57 h) in
         takes_one Start (Width (width_of b)) cells b (ap (λ (t : Bool). cond t (after_digit (width_of b)) wrong) (sym e))
-            (record { places = p; most = omega arith })
+        (record { places = p; most = omega arith })
 
 pub returns-then-byte-lt48 : goal.returns-then-byte-lt48
 returns-then-byte-lt48 c = low _ c.if-byte-lt48.true

@@ -15,7 +15,7 @@ module _ (n b : ℕ) where
   met : b ≡ line_feed → LeadsTo (Width n) b (Run n 0)
   met e cells l =
       takes_one (Width n) (Run n 0) cells b (ap (λ (t : Bool). cond t (in_run n []) wrong) (sym (eq-eqb b line_feed e)))
-          (record { places = l; most = omega arith })
+      (record { places = l; most = omega arith })
 
   other : (b ≡ line_feed → ⊥) → LeadsTo (Width n) b Wrong
   other e cells l =

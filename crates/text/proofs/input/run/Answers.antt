@@ -65,7 +65,7 @@ module _ (n count b : ℕ) (cells : List ℕ) (h : Room (Run n count) cells) whe
           let one : List ℕ = cell_of b ∷ [] in
           let all : take count cells ≡ keep (take count cells ++ one) =
           sym (take-append-le most_cells (take count cells) one (omega (arith, length_is))
-              ∙ take_all most_cells (take count cells) (omega (arith, length_is))) in
+          ∙ take_all most_cells (take count cells) (omega (arith, length_is))) in
           takes_one (Run n count) (Run n count) cells b (ap (in_run n) all ∙ by_cell true (le-leb x 2 l)) h
 
 pub returns-then-byte-eq10 : goal.returns-then-byte-eq10
