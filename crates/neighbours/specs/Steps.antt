@@ -7,8 +7,6 @@ use Rattle.cube.specs.Words.{on_set, off_set, digit_of, implicant}
 use Rattle.cube.specs.Calls.{widest}
 use Rattle.neighbours.specs.Vicinity.{neighbour, kept_bits, vicinity}
 use Rattle.neighbours.specs.declared.vicinities.Kept.{Kept}
-use Rattle.neighbours.specs.declared.ascending.Place.{Place}
-use Rattle.neighbours.specs.declared.ascending.Place.TheVariants.{There, Before}
 
 -- a code of a table of n variables
 pub record CodeOf (n : ℕ) (t : List ℕ) (c : ℕ) : Type 0 where
@@ -50,11 +48,6 @@ inserted q (x ∷ xs) = cond (ltb x q) (x ∷ inserted q xs) (cond (eqb x q) (x 
 -- a number put at a place of a list
 abbrev pub inserted_at : ℕ → ℕ → List ℕ → List ℕ
 inserted_at at q xs = take at xs ++ (q ∷ drop at xs)
-
--- what the place of a number tells
-abbrev pub PlaceOf : ℕ → List ℕ → Place → Type 0
-PlaceOf q xs There = inserted q xs ≡ xs
-PlaceOf q xs (Before at) = (at ≤ length xs) × (inserted q xs ≡ inserted_at at q xs)
 
 -- the first places list what is found at the codes below c, and there is room for all cubes
 pub record FoundSoFar (n : ℕ) (t out : List ℕ) (c count : ℕ) : Type 0 where

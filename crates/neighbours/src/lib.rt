@@ -6,40 +6,25 @@
 //     neighbours::essentials_by_neighbours(2, &[1, 0, 0, 2], &mut places)     // count 1: cube 0 (00); both neighbours of 0 are barred
 #![tactic(auto)]
 
-mod ascending;
 mod vicinities;
 
-ghost use Rattle.std.specs.Prelude.{◌≡◌, true, cond, ◌+◌, ◌<◌, ◌≤◌, ◌^◌, length, take};
-ghost use Rattle.numbers.specs.Below.{some};
+ghost use Rattle.std.specs.Prelude.{◌≡◌, true, ◌+◌, ◌<◌, ◌≤◌, ◌^◌, length, take};
 ghost use Rattle.numbers.specs.Lent.{Puts};
 ghost use Rattle.cube.specs.Words.{on_set, essentials_of};
 ghost use Rattle.cube.specs.Calls.{widest, Listed};
 ghost use Rattle.tables.specs.Listing.{primes_refuses};
-ghost use Rattle.neighbours.specs.Steps.{barred_match, found_below, inserted_at, FoundSoFar};
+ghost use Rattle.neighbours.specs.Steps.{found_below, inserted_at, FoundSoFar};
 
-use ascending::Place;
 use cube::Counted;
-use vicinities::Kept;
 
-// Puts the cube of what code c keeps before place `at` of the listed ones, unless it matches a barred code, and returns how many
-// are listed.
-fn add_implicant(
-    table: &[u8],
-    c: usize,
-    kept: Kept,
-    at: usize,
-    out: &mut [u16],
-    count: usize,
-) -> usize
-    requires { (kept.cube < 3 ^ widest) × (at ≤ count) × (count < length out.old) }
-    ensures { Puts (cond (some (length table.now) (barred_match table.now c kept.bits))
-        (take count out.old) (inserted_at at kept.cube (take count out.old)))
-        out.old 0 out.new result }
+// Puts q before place `at` of the first places, each of those behind it one place on, and returns how many there are then.
+fn insert_at(q: u16, at: usize, list: &mut [u16], count: usize) -> usize
+    requires { (at ≤ count) × (count < length list.old) }
+    ensures { Puts (inserted_at at q (take count list.old)) list.old 0 list.new result }
 {
-    if vicinities::matches_barred(table, c, kept.bits) {
-        return count;
-    }
-    ascending::insert_at(kept.cube as u16, at, out, count)
+    list.copy_within(at..count, at + 1);
+    list[at] = q;
+    count + 1
 }
 
 // Lists the vicinity of a wanted code, unless it is listed already or matches a barred code, and returns how many are listed.
@@ -48,21 +33,12 @@ fn add_vicinity(n: usize, table: &[u8], c: usize, out: &mut [u16], count: usize)
     ensures { Puts (found_below n table.now (c + 1)) out.old 0 out.new result }
 {
     let kept = vicinities::kept_bits(n, table, c);
-    match ascending::place_of(kept.cube as u16, out, count) {
-        Place::There => count,
-        Place::Before(at) => add_implicant(table, c, kept, at, out, count),
+    let cube = kept.cube as u16;
+    match out[..count].binary_search(&cube) {
+        Ok(_) => count,
+        Err(_) if vicinities::matches_barred(table, c, kept.bits) => count,
+        Err(at) => insert_at(cube, at, out, count),
     }
-}
-
-// Lists what is found at code c, nothing if it is not wanted, and returns how many are listed.
-fn add_code(n: usize, table: &[u8], c: usize, out: &mut [u16], count: usize) -> usize
-    requires { FoundSoFar n table.now out.old c count }
-    ensures { Puts (found_below n table.now (c + 1)) out.old 0 out.new result }
-{
-    if table[c] != 1 {
-        return count;
-    }
-    add_vicinity(n, table, c, out, count)
 }
 
 // Lists the essential primes of a table of n variables, ascending, and returns their number.
@@ -71,10 +47,10 @@ fn list_essentials(n: usize, table: &[u8], out: &mut [u16]) -> usize
     ensures { Puts (essentials_of n table.now) out.old 0 out.new result }
 {
     let mut count = 0;
-    let mut c = 0;
-    while c < table.len() {
-        count = add_code(n, table, c, out, count);
-        c += 1;
+    for (c, cell) in table.iter().enumerate() {
+        if *cell == 1 {
+            count = add_vicinity(n, table, c, out, count);
+        }
     }
     count
 }

@@ -36,35 +36,18 @@ pub fn kept_bits(n: usize, table: &[u8], c: usize) -> Kept
     ensures { KeptOf n table.now c result }
 {
     let mut kept = Kept { bits: 0, cube: 0 };
-    let mut k = n;
-    while 0 < k {
-        k -= 1;
+    for k in (0..n).rev() {
         kept = with_bit(table, c, k, kept);
     }
     kept
-}
-
-// Whether code x is barred and agrees with code c in these bits.
-fn is_barred_match(table: &[u8], c: usize, bits: usize, x: usize) -> bool
-    requires { x < length table.now }
-    ensures { result ≡ barred_match table.now c bits x }
-{
-    if table[x] != 0 {
-        return false;
-    }
-    x & bits == c & bits
 }
 
 // Whether some barred code agrees with code c in these bits.
 pub fn matches_barred(table: &[u8], c: usize, bits: usize) -> bool
     ensures { result ≡ some (length table.now) (barred_match table.now c bits) }
 {
-    let mut x = 0;
-    while x < table.len() {
-        if is_barred_match(table, c, bits, x) {
-            return true;
-        }
-        x += 1;
-    }
-    false
+    table
+        .iter()
+        .enumerate()
+        .any(|(x, cell)| *cell == 0 && x & bits == c & bits)
 }
