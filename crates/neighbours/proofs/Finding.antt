@@ -16,7 +16,6 @@ use Rattle.std.specs.Ordering.{nat_cmp}
 use Rattle.numbers.specs.Below.{some, those}
 use Rattle.numbers.specs.Lent.{Puts}
 use Rattle.cube.specs.Words.{on_set, off_set, cube_matches, implicant, essential, essentials_of}
-use Rattle.cube.specs.Calls.{widest}
 use Rattle.numbers.proofs.Bools.{and_l, and_r, and_i, same, eqb_of}
 use Rattle.numbers.proofs.Below.{every_fails, some_at, some_by, some_same, those_same, those_none, those-length, those_ascend}
 use Rattle.numbers.proofs.Lent.{puts_same, puts_long, puts_over, puts_there, front_count, front_lent}
@@ -109,7 +108,7 @@ module _ (n : ℕ) (t : List ℕ) where
 
 -- ---- the places, with one code more
 
-module _ (n : ℕ) (t out : List ℕ) (c count : ℕ) (l : FoundSoFar n t out c count) where
+module _ (n : ℕ) (t out : List ℕ) (c count : ℕ) (cells : length t ≡ 2 ^ n) (l : FoundSoFar n t out c count) where
   pub listed_inside : count ≤ length out
   listed_inside = omega (arith, l.counts, l.room, found_most n t c)
 
@@ -150,7 +149,7 @@ module _ (n : ℕ) (t out : List ℕ) (c count : ℕ) (l : FoundSoFar n t out c 
           omega (arith, ap length e, inserted_most n t c, at_length q at (take count out) p.0, length-take-le count out listed_inside, l.room)
 
       is_implicant : (bits : ℕ) → bits ≡ kept_bits n t c → implicant n t (vicinity n t c) ≡ not (some (length t) (barred_match t c bits))
-      is_implicant bits k = implicant_by_bits n t c ∙ sym (ap₂ (λ (m x : ℕ). not (some m (barred_match t c x))) l.code.cells k)
+      is_implicant bits k = implicant_by_bits n t c ∙ sym (ap₂ (λ (m x : ℕ). not (some m (barred_match t c x))) cells k)
 
       -- it is no implicant, or it is and is put in
       pub barred_matched : (bits : ℕ) → bits ≡ kept_bits n t c → some (length t) (barred_match t c bits) ≡ true → Puts (found_below n t (c + 1)) out 0 out count
@@ -164,11 +163,9 @@ module _ (n : ℕ) (t out : List ℕ) (c count : ℕ) (l : FoundSoFar n t out c 
 
 -- ---- the codes before c, and code c
 
-module _ (n : ℕ) (t old : List ℕ) (w : n ≤ widest) (cells : length t ≡ 2 ^ n) (room : 3 ^ n ≤ length old) (c count : ℕ) (out : List ℕ) (l : c < length t)
-    (p : Puts (found_below n t c) old 0 out count) where
+module _ (n : ℕ) (t old : List ℕ) (room : 3 ^ n ≤ length old) (c count : ℕ) (out : List ℕ) (p : Puts (found_below n t c) old 0 out count) where
   pub so_far : FoundSoFar n t out c count
   so_far = record {
-    code = record { width = w; cells = cells; code = omega arith };
     room = omega (arith, puts_long p);
     counts = front_count p;
     listed = front_lent p (le_trans (found_most n t c) room);

@@ -16,31 +16,31 @@ small n t c q l e = omega (arith, e, (vicinity_digits n t c).below, cubes_most n
 
 pub overflow_cast-cube : goal.overflow_cast-cube
 overflow_cast-cube c =
-    omega (arith, small c.args.n c.args.table.now c.args.c _ c.requires.0.code.width c.kept_bits-kept.ensures.cube)
+    omega (arith, small c.args.table.width c.args.table.cells.now c.args.c _ c.args.table.narrow c.kept_bits-kept.ensures.cube)
 
 pub returns-in-Ok : goal.returns-in-Ok
 returns-in-Ok c =
     let s = c.args in
-    listed_already s.n s.table.now s.out.now s.c s.count c.requires.0 c.requires.1 _ c.kept_bits-kept.ensures.cube _ c.in-Ok.ensures.position
+    listed_already s.table.width s.table.cells.now s.out.now s.c s.count s.table.sized c.requires.found c.requires.wanted _ c.kept_bits-kept.ensures.cube _ c.in-Ok.ensures.position
 
 pub returns-in-Err : goal.returns-in-Err
 returns-in-Err c =
     let s = c.args in
     let kept = c.kept_bits-kept.ensures in
-    barred_matched s.n s.table.now s.out.now s.c s.count c.requires.0 c.requires.1 _ kept.cube _ c.in-Err.ensures.position _ kept.bits
+    barred_matched s.table.width s.table.cells.now s.out.now s.c s.count s.table.sized c.requires.found c.requires.wanted _ kept.cube _ c.in-Err.ensures.position _ kept.bits
     (sym c.matches_barred.ensures ∙ c.if-matches_barred.true)
 
 pub insert_at-requires : goal.insert_at-requires
 insert_at-requires c =
     let s = c.args in
     let kept = c.kept_bits-kept.ensures in (
-      before_inside s.n s.table.now s.out.now s.c s.count c.requires.0 c.requires.1 _ kept.cube _ c.in-Err.ensures.position,
-      room_for_one s.n s.table.now s.out.now s.c s.count c.requires.0 c.requires.1 _ kept.cube _ c.in-Err.ensures.position,
+      before_inside s.table.width s.table.cells.now s.out.now s.c s.count s.table.sized c.requires.found c.requires.wanted _ kept.cube _ c.in-Err.ensures.position,
+      room_for_one s.table.width s.table.cells.now s.out.now s.c s.count s.table.sized c.requires.found c.requires.wanted _ kept.cube _ c.in-Err.ensures.position,
     )
 
 pub returns-in-Err-2 : goal.returns-in-Err-2
 returns-in-Err-2 c =
     let s = c.args in
     let kept = c.kept_bits-kept.ensures in
-    listed_before s.n s.table.now s.out.now s.c s.count c.requires.0 c.requires.1 _ kept.cube _ c.in-Err.ensures.position _ _ _ kept.bits
+    listed_before s.table.width s.table.cells.now s.out.now s.c s.count s.table.sized c.requires.found c.requires.wanted _ kept.cube _ c.in-Err.ensures.position _ _ _ kept.bits
     (sym c.matches_barred.ensures ∙ c.if-matches_barred.false) c.insert_at.ensures

@@ -13,34 +13,33 @@ use Rattle.neighbours.proofs.list_essentials.Goals as goal
 use Rattle.neighbours.proofs.list_essentials.Goals.{then-cell-eq1, else-cell-eq1}
 
 pub loop-c-init : goal.loop-c-init
-loop-c-init c = puts_same (sym (found_none c.args.n c.args.table.now)) (puts_none c.args.out.now 0)
+loop-c-init c = puts_same (sym (found_none c.args.table.width c.args.table.cells.now)) (puts_none c.args.out.now 0)
 
 pub add_vicinity-count-requires : goal.add_vicinity-count-requires
 add_vicinity-count-requires c =
-    let s = c.args in
-    let r = c.requires in (
-      so_far s.n s.table.now s.out.now r.0 r.1 r.2 c.loop-c.c c.loop-c.count c.loop-c.out c.loop-c-test.true c.loop-c.invariant,
-      eq-eqb (cell s.table.now c.loop-c.c) 1 c.if-cell-eq1.true,
-    )
+    let s = c.args in record {
+      found = so_far s.table.width s.table.cells.now s.out.now c.requires c.loop-c.c c.loop-c.count c.loop-c.out c.loop-c.invariant;
+      code = c.loop-c-test.true;
+      wanted = eq-eqb (cell s.table.cells.now c.loop-c.c) 1 c.if-cell-eq1.true;
+    }
 
 pub loop-c-preserved : goal.loop-c-preserved
 loop-c-preserved c =
     let s = c.args in
-    let r = c.requires in
     let at = c.loop-c in
-    let Next : List ℕ → ℕ → Type 0 = λ new k. Puts (found_below s.n s.table.now (at.c + 1)) s.out.now 0 new k in
+    let Next : List ℕ → ℕ → Type 0 = λ new k. Puts (found_below s.table.width s.table.cells.now (at.c + 1)) s.out.now 0 new k in
     elim c.if-cell-eq1.branch [
       | then-cell-eq1 w ↦
           subst₂ Next (sym w.out-is) (sym w.count-is)
-          (with_wanted s.n s.table.now s.out.now r.0 r.1 r.2 at.c at.count at.out c.loop-c-test.true at.invariant w.add_vicinity-count.ensures)
+          (with_wanted s.table.width s.table.cells.now s.out.now c.requires at.c at.count at.out at.invariant w.add_vicinity-count.ensures)
       | else-cell-eq1 w ↦
           subst₂ Next (sym w.out-is) (sym w.count-is)
-          (without_it s.n s.table.now s.out.now r.0 r.1 r.2 at.c at.count at.out c.loop-c-test.true at.invariant
-          (ne_eqb (cell s.table.now at.c) 1 w.if-cell-eq1.false))
+          (without_it s.table.width s.table.cells.now s.out.now c.requires at.c at.count at.out at.invariant
+          (ne_eqb (cell s.table.cells.now at.c) 1 w.if-cell-eq1.false))
     ]
 
 pub returns : goal.returns
 returns c =
-    let s = c.args in
-    let e : c.loop-c.c ≡ 2 ^ c.args.n = omega (arith, c.requires.1) in
-    puts_same (ap (found_below s.n s.table.now) e ∙ found_all s.n s.table.now) c.loop-c.invariant
+    let t = c.args.table in
+    let e : c.loop-c.c ≡ 2 ^ t.width = omega (arith, t.sized) in
+    puts_same (ap (found_below t.width t.cells.now) e ∙ found_all t.width t.cells.now) c.loop-c.invariant

@@ -4,4 +4,4 @@ use Rattle.neighbours.specs.Steps.{found_below}
 use Rattle.neighbours.proofs.list_essentials.Given as goal
 
 abbrev pub invariant-loop-c : goal.invariant-loop-c
-invariant-loop-c l = Puts (found_below l.n l.table l.c) l.initial.out 0 l.out l.count
+invariant-loop-c l = Puts (found_below l.table.width l.table.cells.now l.c) l.initial.out 0 l.out l.count

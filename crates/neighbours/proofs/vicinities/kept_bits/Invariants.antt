@@ -3,4 +3,4 @@ use Rattle.neighbours.proofs.Reading.{ReadTo}
 use Rattle.neighbours.proofs.vicinities.kept_bits.Given as goal
 
 abbrev pub invariant-loop-k : goal.invariant-loop-k
-invariant-loop-k l = ReadTo l.n l.table l.c l.k l.kept
+invariant-loop-k l = ReadTo l.table.width l.table.cells.now l.c l.k l.kept

@@ -9,5 +9,5 @@ use Rattle.neighbours.proofs.vicinities.matches_barred.Goals as goal
 pub returns : goal.returns
 returns c =
     any_from_yields_List (λ p. eqb p.1 0 && eqb (bit_and p.0 c.args.bits) (bit_and c.args.c c.args.bits)) _ _ _ c.any.ensures.ran
-    (YieldsList-from_enumerate (YieldsList-from_slice c.args.table.now cc) cc) (λ x b q k. search (rules, tests))
-    ∙ some_cell _ c.args.table.now
+    (YieldsList-from_enumerate (YieldsList-from_slice c.args.table.cells.now cc) cc) (λ x b q k. search (rules, tests))
+    ∙ some_cell _ c.args.table.cells.now
