@@ -7,4 +7,5 @@ pub mod Bits
 pub mod Kept
 pub mod Fronts
 pub mod Lent
+pub mod Loops
 pub mod Examples
