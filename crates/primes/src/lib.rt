@@ -45,7 +45,7 @@ fn code_kind(cell: u8) -> Kind
 fn joined_kind(low: Kind, high: Kind) -> Kind
     ensures { Joins low high result }
 {
-    if low.min(high) == Kind::NoImplicant {
+    if low == Kind::NoImplicant || high == Kind::NoImplicant {
         Kind::NoImplicant
     } else {
         low.max(high)

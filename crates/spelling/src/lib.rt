@@ -18,13 +18,13 @@ const WIDEST: usize = 6;
 
 // The codes, the pairs of codes and the cubes of the widest mark: the lengths of arrays that must suffice for every width. A shortest list has at
 // most a row for each pair of codes.
-pub const MOST_CODES: usize = 64;
+pub const MOST_CODES: usize = 1 << WIDEST;
 
-pub const MOST_CODE_PAIRS: usize = 32;
+pub const MOST_CODE_PAIRS: usize = MOST_CODES / 2;
 
 pub const MOST_CUBES: usize = 729;
 
-static POWERS_OF_THREE: [usize; 7] = [1, 3, 9, 27, 81, 243, 729];
+static POWERS_OF_THREE: [usize; WIDEST + 1] = [1, 3, 9, 27, 81, 243, 729];
 
 // Refuses a width outside 1 to 6.
 pub fn check_width(n: usize) -> Result<(), Refusal>
