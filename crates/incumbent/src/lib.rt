@@ -73,8 +73,8 @@ impl Gathered {
     }
 }
 
-#[tactic(auto, using(numbers::proofs::Loops::turn_in))]
 // The live rows of those picked, if they cover the undecided columns and weigh less than the limit.
+#[tactic(auto, using(numbers::proofs::Loops::turn_in))]
 pub fn checked(problem: &Subproblem, picked: &rows::Set, limit: u64) -> Option<Cover>
     ensures none { let p = problem.now in IfNone result ((k : ℕ) → IsCover p.matrix.words.now p.matrix.weights.now p.live.now p.undecided picked.now k → limit ≤ k) }
     ensures some { let p = problem.now in IfSome result (λ c. Incumbent p.matrix.words.now p.matrix.weights.now p.live.now p.undecided limit c) }
