@@ -1,13 +1,14 @@
 -- Sets of rows as words: what a word put in changes, two sets joined word by word, and the first row of a set. Assumes nothing.
 use mathlib.Core.Path.{◌≡◌, refl, sym, ap, ap₂, ◌∙◌}
-use mathlib.Core.List.{List}
-use mathlib.Core.Bool.{Bool, true, false, not, ◌&&◌, ◌||◌, or-false}
-use Prim.Native.Nat.{ℕ, ◌+◌, ◌*◌, ◌/◌, ◌%◌, ◌≤◌, ◌<◌}
+use mathlib.Core.List.{List, [], ◌∷◌}
+use mathlib.Core.Bool.{Bool, true, false, not, ◌&&◌, ◌||◌}
+use Prim.Native.Nat.{ℕ, suc, ◌+◌, ◌-◌, ◌*◌, ◌/◌, ◌%◌, ◌≤◌, ◌<◌}
 use native.Mathlib.Decide.{ℕ_discrete, dec_lt}
 use native.Mathlib.Omega.{arith}
 use lib.Dec.{eqb, ltb, leb}
-use lib.ListN.{length, get_or, set, replicate, length-set, length-replicate, get_or-replicate, get_or-eq_default}
+use lib.ListN.{length, get_or, drop, set, replicate, length-set, length-replicate, get_or-replicate, get_or-eq_default}
 use lib.Seq.{get_or-set_same, get_or-set_other}
+use Rattle.std.proofs.lemmas.List.{get_or-drop}
 use borrow.Author.Tests.{eq-eqb, ne_eqb, lt-ltb, le-ltb, le-leb, lt-leb}
 use Rattle.matrix.specs.Sets.{word_bits, row_words, has_bit, member, Next}
 use Rattle.matrix.specs.Walks.{left_behind}
@@ -98,106 +99,143 @@ module _ (op : Bool → Bool → Bool) (a b : List ℕ) where
 
 -- ---- going through the rows
 
-module _ (set : List ℕ) where
-  -- what is left, of a row before the word at the place, in it, and behind it
-  module _ (place word j : ℕ) where
-    left_no : j / word_bits < place → left_behind set place word j ≡ false
-    left_no l =
-        ap (λ (b : Bool). b && has_bit word (j % word_bits) || ltb place (j / word_bits) && member set j) (ne_eqb (j / word_bits) place (λ z. omega arith))
-        ∙ ap (λ (b : Bool). b && member set j) (le-ltb place (j / word_bits) (omega arith))
+-- a row in the first of some words, and behind it
+member_first : (word : ℕ) (rest : List ℕ) (i : ℕ) → i < word_bits → member (word ∷ rest) i ≡ has_bit word i
+unfolding member
+member_first word rest i l =
+    let d : i / word_bits ≡ 0 = omega arith in
+    let m : i % word_bits ≡ i = omega arith in
+    ap₂ (λ (k x : ℕ). has_bit (get_or (word ∷ rest) k 0) x) d m
 
-    left_bit : j / word_bits ≡ place → left_behind set place word j ≡ has_bit word (j % word_bits)
-    left_bit e =
-        ap (λ (b : Bool). b && has_bit word (j % word_bits) || ltb place (j / word_bits) && member set j) (eq-eqb (j / word_bits) place e)
-        ∙ ap (λ (b : Bool). has_bit word (j % word_bits) || b && member set j) (le-ltb place (j / word_bits) (omega arith)) ∙ or-false (has_bit word (j % word_bits))
+member_behind : (word : ℕ) (rest : List ℕ) (i : ℕ) → word_bits ≤ i → member (word ∷ rest) i ≡ member rest (i - word_bits)
+unfolding member
+member_behind word rest i l =
+    let d : i / word_bits ≡ suc ((i - word_bits) / word_bits) = omega arith in
+    let m : i % word_bits ≡ (i - word_bits) % word_bits = omega arith in
+    ap₂ (λ (k x : ℕ). has_bit (get_or (word ∷ rest) k 0) x) d m
 
-    left_row : place < j / word_bits → left_behind set place word j ≡ member set j
-    left_row l =
-        ap (λ (b : Bool). b && has_bit word (j % word_bits) || ltb place (j / word_bits) && member set j) (ne_eqb (j / word_bits) place (λ z. omega arith))
-        ∙ ap (λ (b : Bool). b && member set j) (lt-ltb place (j / word_bits) l)
+-- at first each row of the set is left
+pub left_first : (set : List ℕ) (w : ℕ) (rest : List ℕ) → w ≡ get_or set 0 0 → rest ≡ drop 1 set → (j : ℕ) → left_behind (w ∷ rest) 0 j ≡ member set j
+left_first set w rest e f j =
+    let i : j - 0 ≡ j = omega arith in
+    ap (λ (b : Bool). b && member (w ∷ rest) (j - 0)) (le-leb 0 j (omega arith)) ∙ ap (member (w ∷ rest)) i ∙ ap₂ (λ (w : ℕ) (l : List ℕ). member (w ∷ l) j) e f
+    ∙ whole set
+  where
+    whole : (set : List ℕ) → member (get_or set 0 0 ∷ drop 1 set) j ≡ member set j
+    whole [] = member_none 1 j ∙ sym (member_past [] j (omega arith))
+    whole (x ∷ words) = refl
 
-  -- a word of the set has the rows of its place
-  bit_row : (place j : ℕ) {w : ℕ} → w ≡ get_or set place 0 → j / word_bits ≡ place → has_bit w (j % word_bits) ≡ member set j
-  unfolding member
-  bit_row place j e h = ap (λ (x : ℕ). has_bit x (j % word_bits)) (e ∙ ap (λ (k : ℕ). get_or set k 0) (sym h))
+module _ (word : ℕ) (rest : List ℕ) (base : ℕ) where
+  -- what is left, of a row before the word, in it, and behind it
+  module _ (j : ℕ) where
+    left_no : j < base → left_behind (word ∷ rest) base j ≡ false
+    left_no l = ap (λ (b : Bool). b && member (word ∷ rest) (j - base)) (lt-leb base j l)
 
-  -- at first each row of the set is left
-  pub left_first : (w : ℕ) → w ≡ get_or set 0 0 → (j : ℕ) → left_behind set 0 w j ≡ member set j
-  left_first w e j = go (dec_lt 0 (j / word_bits))
-    where
-      go : Dec (0 < j / word_bits) → left_behind set 0 w j ≡ member set j
-      go (yes l) = left_row 0 w j l
-      go (no n) = left_bit 0 w j (omega arith) ∙ bit_row 0 j e (omega arith)
+    left_bit : base ≤ j → j - base < word_bits → left_behind (word ∷ rest) base j ≡ has_bit word (j - base)
+    left_bit l m = ap (λ (b : Bool). b && member (word ∷ rest) (j - base)) (le-leb base j l) ∙ member_first word rest (j - base) m
 
-  module _ (place word : ℕ) where
-    module _ (none : (b : ℕ) → has_bit word b ≡ true → ⊥) where
-      -- where no bit is left of the word, what is left begins with the next word
-      pub left_next : (w : ℕ) → w ≡ get_or set (place + 1) 0 → (j : ℕ) → left_behind set (place + 1) w j ≡ left_behind set place word j
-      left_next w e j = go (dec_lt (j / word_bits) place) (dec_lt place (j / word_bits)) (dec_lt (place + 1) (j / word_bits))
-        where
-          go : Dec (j / word_bits < place) → Dec (place < j / word_bits) → Dec (place + 1 < j / word_bits) → left_behind set (place + 1) w j ≡ left_behind set place word j
-          go (yes l) d f = left_no (place + 1) w j (omega arith) ∙ sym (left_no place word j l)
-          go (no n) (no m) f = left_no (place + 1) w j (omega arith) ∙ sym (left_bit place word j (omega arith) ∙ not_set _ (none (j % word_bits)))
-          go (no n) (yes l) (no m) = left_bit (place + 1) w j (omega arith) ∙ bit_row (place + 1) j e (omega arith) ∙ sym (left_row place word j l)
-          go (no n) (yes l) (yes m) = left_row (place + 1) w j m ∙ sym (left_row place word j l)
+    left_row : base ≤ j → word_bits ≤ j - base → left_behind (word ∷ rest) base j ≡ member rest (j - base - word_bits)
+    left_row l m = ap (λ (b : Bool). b && member (word ∷ rest) (j - base)) (le-leb base j l) ∙ member_behind word rest (j - base) m
 
-      -- and nothing is left where the word is the last
-      pub left_none : (end : ℕ) → end ≤ (place + 1) * word_bits → (j : ℕ) → j < end → left_behind set place word j ≡ false
-      left_none end l j m = go (dec_lt (j / word_bits) place)
-        where
-          go : Dec (j / word_bits < place) → left_behind set place word j ≡ false
-          go (yes n) = left_no place word j n
-          go (no n) = left_bit place word j (omega arith) ∙ not_set _ (none (j % word_bits))
+  module _ (none : (b : ℕ) → has_bit word b ≡ true → ⊥) where
+    -- where no bit is left of the word, what is left begins with the next word
+    pub left_next : (j : ℕ) → left_behind rest (base + word_bits) j ≡ left_behind (word ∷ rest) base j
+    left_next j = go (dec_lt j base) (dec_lt j (base + word_bits))
+      where
+        off : (b : Bool) → b ≡ false → (b && member rest (j - (base + word_bits))) ≡ false
+        off b e = ap (λ (b : Bool). b && member rest (j - (base + word_bits))) e
 
-    -- the first bit of the word is the first row that is left
-    module _ (b : ℕ) (first : (b < word_bits) × Next (has_bit word) 0 word_bits b) where
-      pub left_here : left_behind set place word (place * word_bits + b) ≡ true
-      left_here = let e : (place * word_bits + b) % word_bits ≡ b = omega (arith, first.0) in
-          left_bit place word (place * word_bits + b) (omega (arith, first.0)) ∙ ap (has_bit word) e ∙ first.1.here first.0
+        go : Dec (j < base) → Dec (j < base + word_bits) → left_behind rest (base + word_bits) j ≡ left_behind (word ∷ rest) base j
+        go (yes l) d = off _ (lt-leb (base + word_bits) j (omega arith)) ∙ sym (left_no j l)
+        go (no n) (yes l) = off _ (lt-leb (base + word_bits) j l) ∙ sym (left_bit j (omega arith) (omega arith) ∙ not_set _ (none (j - base)))
+        go (no n) (no m) = let e : j - (base + word_bits) ≡ j - base - word_bits = omega arith in
+            ap (λ (b : Bool). b && member rest (j - (base + word_bits))) (le-leb (base + word_bits) j (omega arith)) ∙ ap (member rest) e
+            ∙ sym (left_row j (omega arith) (omega arith))
 
-      pub left_before : (j : ℕ) → j < place * word_bits + b → left_behind set place word j ≡ false
-      left_before j l = go (dec_lt (j / word_bits) place)
-        where
-          go : Dec (j / word_bits < place) → left_behind set place word j ≡ false
-          go (yes n) = left_no place word j n
-          go (no n) = left_bit place word j (omega (arith, first.0)) ∙ first.1.before (j % word_bits) (omega arith) (omega (arith, first.0))
+    -- and nothing is left where the word is the last before the end, or no word is behind it
+    pub left_none : (j : ℕ) → j < base + word_bits → left_behind (word ∷ rest) base j ≡ false
+    left_none j l = go (dec_lt j base)
+      where
+        go : Dec (j < base) → left_behind (word ∷ rest) base j ≡ false
+        go (yes n) = left_no j n
+        go (no n) = left_bit j (omega arith) (omega arith) ∙ not_set _ (none (j - base))
 
-      pub left_after : (w : ℕ) → ((x : ℕ) → has_bit w x ≡ (ltb b x && has_bit word x)) → (j : ℕ)
-          → left_behind set place w j ≡ (ltb (place * word_bits + b) j && left_behind set place word j)
-      left_after w e j = go (dec_lt (j / word_bits) place) (dec_lt place (j / word_bits))
-        where
-          same : j / word_bits ≡ place → ltb b (j % word_bits) ≡ ltb (place * word_bits + b) j
-          same d = at (dec_lt b (j % word_bits))
-            where
-              at : Dec (b < j % word_bits) → ltb b (j % word_bits) ≡ ltb (place * word_bits + b) j
-              at (yes l) = lt-ltb b (j % word_bits) l ∙ sym (lt-ltb (place * word_bits + b) j (omega arith))
-              at (no n) = le-ltb b (j % word_bits) (omega arith) ∙ sym (le-ltb (place * word_bits + b) j (omega arith))
+    pub left_end : length rest ≡ 0 → (j : ℕ) → left_behind (word ∷ rest) base j ≡ false
+    left_end e j = go (dec_lt j (base + word_bits))
+      where
+        go : Dec (j < base + word_bits) → left_behind (word ∷ rest) base j ≡ false
+        go (yes l) = left_none j l
+        go (no n) =
+            left_row j (omega arith) (omega arith) ∙ member_past rest (j - base - word_bits) (omega arith)
 
-          go : Dec (j / word_bits < place) → Dec (place < j / word_bits) → left_behind set place w j ≡ (ltb (place * word_bits + b) j && left_behind set place word j)
-          go (yes l) d = left_no place w j l ∙ sym (ap (λ (t : Bool). t && left_behind set place word j) (le-ltb (place * word_bits + b) j (omega arith)))
-          go (no n) (yes l) =
-              left_row place w j l ∙ sym (left_row place word j l)
-              ∙ sym (ap (λ (t : Bool). t && left_behind set place word j) (lt-ltb (place * word_bits + b) j (omega (arith, first.0))))
-          go (no n) (no m) =
-              left_bit place w j (omega arith) ∙ e (j % word_bits) ∙ ap (λ (t : Bool). t && has_bit word (j % word_bits)) (same (omega arith))
-              ∙ ap (λ (t : Bool). ltb (place * word_bits + b) j && t) (sym (left_bit place word j (omega arith)))
+  -- the first bit of the word is the first row that is left
+  module _ (b : ℕ) (first : (b < word_bits) × Next (has_bit word) 0 word_bits b) where
+    pub left_here : left_behind (word ∷ rest) base (base + b) ≡ true
+    left_here = let e : base + b - base ≡ b = omega arith in left_bit (base + b) (omega arith) (omega (arith, first.0)) ∙ ap (has_bit word) e ∙ first.1.here first.0
 
-  -- the rows from `from` on are what is left where the word has lost its bits below
-  pub left_from : (from w : ℕ) → ((x : ℕ) → x < word_bits → has_bit w x ≡ (leb (from % word_bits) x && has_bit (get_or set (from / word_bits) 0) x)) → (j : ℕ)
-      → left_behind set (from / word_bits) w j ≡ (leb from j && member set j)
-  left_from from w e j = go (dec_lt (j / word_bits) (from / word_bits)) (dec_lt (from / word_bits) (j / word_bits))
-    where
-      same : j / word_bits ≡ from / word_bits → leb (from % word_bits) (j % word_bits) ≡ leb from j
-      same d = at (dec_lt j from)
-        where
-          at : Dec (j < from) → leb (from % word_bits) (j % word_bits) ≡ leb from j
-          at (yes l) = lt-leb (from % word_bits) (j % word_bits) (omega arith) ∙ sym (lt-leb from j l)
-          at (no n) = le-leb (from % word_bits) (j % word_bits) (omega arith) ∙ sym (le-leb from j (omega arith))
+    pub left_before : (j : ℕ) → j < base + b → left_behind (word ∷ rest) base j ≡ false
+    left_before j l = go (dec_lt j base)
+      where
+        go : Dec (j < base) → left_behind (word ∷ rest) base j ≡ false
+        go (yes n) = left_no j n
+        go (no n) = left_bit j (omega arith) (omega (arith, first.0)) ∙ first.1.before (j - base) (omega arith) (omega arith)
 
-      go : Dec (j / word_bits < from / word_bits) → Dec (from / word_bits < j / word_bits) → left_behind set (from / word_bits) w j ≡ (leb from j && member set j)
-      go (yes l) d = left_no (from / word_bits) w j l ∙ sym (ap (λ (t : Bool). t && member set j) (lt-leb from j (omega arith)))
-      go (no n) (yes l) = left_row (from / word_bits) w j l ∙ sym (ap (λ (t : Bool). t && member set j) (le-leb from j (omega arith)))
-      go (no n) (no m) =
-          left_bit (from / word_bits) w j (omega arith) ∙ e (j % word_bits) (omega arith)
-          ∙ ap (λ (t : Bool). leb (from % word_bits) (j % word_bits) && t) (bit_row (from / word_bits) j refl (omega arith))
-          ∙ ap (λ (t : Bool). t && member set j) (same (omega arith))
+    pub left_after : (w : ℕ) → ((x : ℕ) → has_bit w x ≡ (ltb b x && has_bit word x)) → (j : ℕ)
+        → left_behind (w ∷ rest) base j ≡ (ltb (base + b) j && left_behind (word ∷ rest) base j)
+    left_after w e j = go (dec_lt j base) (dec_lt j (base + word_bits))
+      where
+        same : base ≤ j → ltb b (j - base) ≡ ltb (base + b) j
+        same d = at (dec_lt b (j - base))
+          where
+            at : Dec (b < j - base) → ltb b (j - base) ≡ ltb (base + b) j
+            at (yes l) = lt-ltb b (j - base) l ∙ sym (lt-ltb (base + b) j (omega arith))
+            at (no n) = le-ltb b (j - base) (omega arith) ∙ sym (le-ltb (base + b) j (omega arith))
+
+        go : Dec (j < base) → Dec (j < base + word_bits) → left_behind (w ∷ rest) base j ≡ (ltb (base + b) j && left_behind (word ∷ rest) base j)
+        go (yes l) d =
+            ap (λ (t : Bool). t && member (w ∷ rest) (j - base)) (lt-leb base j l)
+            ∙ sym (ap (λ (t : Bool). t && left_behind (word ∷ rest) base j) (le-ltb (base + b) j (omega arith)))
+        go (no n) (yes l) =
+            ap (λ (t : Bool). t && member (w ∷ rest) (j - base)) (le-leb base j (omega arith)) ∙ member_first w rest (j - base) (omega arith) ∙ e (j - base)
+            ∙ ap (λ (t : Bool). t && has_bit word (j - base)) (same (omega arith))
+            ∙ ap (λ (t : Bool). ltb (base + b) j && t) (sym (left_bit j (omega arith) (omega arith)))
+        go (no n) (no m) =
+            ap (λ (t : Bool). t && member (w ∷ rest) (j - base)) (le-leb base j (omega arith)) ∙ member_behind w rest (j - base) (omega arith)
+            ∙ sym (left_row j (omega arith) (omega arith))
+            ∙ sym (ap (λ (t : Bool). t && left_behind (word ∷ rest) base j) (lt-ltb (base + b) j (omega (arith, first.0))))
+
+-- the rows from `from` on are what is left where the word has lost its bits below
+pub left_from : (set : List ℕ) (from w : ℕ) → ((x : ℕ) → x < word_bits → has_bit w x ≡ (leb (from % word_bits) x && has_bit (get_or set (from / word_bits) 0) x)) → (j : ℕ)
+    → left_behind (w ∷ drop (from / word_bits + 1) set) (from / word_bits * word_bits) j ≡ (leb from j && member set j)
+unfolding member
+left_from set from w e j = go (dec_lt j (from / word_bits * word_bits)) (dec_lt j (from / word_bits * word_bits + word_bits))
+  where
+    in_word : j / word_bits ≡ from / word_bits → has_bit (get_or set (from / word_bits) 0) (j - from / word_bits * word_bits) ≡ member set j
+    in_word d =
+        let m : j - from / word_bits * word_bits ≡ j % word_bits = omega arith in
+        ap₂ (λ (k x : ℕ). has_bit (get_or set k 0) x) (sym d) m
+
+    in_rest : from / word_bits < j / word_bits → member (drop (from / word_bits + 1) set) (j - from / word_bits * word_bits - word_bits) ≡ member set j
+    in_rest l =
+        let i : ℕ = j - from / word_bits * word_bits - word_bits in
+        let m : i % word_bits ≡ j % word_bits = omega arith in
+        let k : from / word_bits + 1 + i / word_bits ≡ j / word_bits = omega arith in
+        ap₂ has_bit (get_or-drop (from / word_bits + 1) set (i / word_bits) 0 ∙ ap (λ (k : ℕ). get_or set k 0) k) m
+
+    same : j / word_bits ≡ from / word_bits → leb (from % word_bits) (j - from / word_bits * word_bits) ≡ leb from j
+    same d = at (dec_lt j from)
+      where
+        at : Dec (j < from) → leb (from % word_bits) (j - from / word_bits * word_bits) ≡ leb from j
+        at (yes l) = lt-leb (from % word_bits) (j - from / word_bits * word_bits) (omega arith) ∙ sym (lt-leb from j l)
+        at (no n) = le-leb (from % word_bits) (j - from / word_bits * word_bits) (omega arith) ∙ sym (le-leb from j (omega arith))
+
+    go : Dec (j < from / word_bits * word_bits) → Dec (j < from / word_bits * word_bits + word_bits)
+        → left_behind (w ∷ drop (from / word_bits + 1) set) (from / word_bits * word_bits) j ≡ (leb from j && member set j)
+    go (yes l) d =
+        left_no w (drop (from / word_bits + 1) set) (from / word_bits * word_bits) j l ∙ sym (ap (λ (t : Bool). t && member set j) (lt-leb from j (omega arith)))
+    go (no n) (yes l) =
+        left_bit w (drop (from / word_bits + 1) set) (from / word_bits * word_bits) j (omega arith) (omega arith) ∙ e (j - from / word_bits * word_bits) (omega arith)
+        ∙ ap₂ ◌&&◌ (same (omega arith)) (in_word (omega arith))
+    go (no n) (no m) =
+        left_row w (drop (from / word_bits + 1) set) (from / word_bits * word_bits) j (omega arith) (omega arith) ∙ in_rest (omega arith)
+        ∙ sym (ap (λ (t : Bool). t && member set j) (le-leb from j (omega arith)))

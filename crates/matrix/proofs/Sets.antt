@@ -6,7 +6,7 @@ use Prim.Native.Nat.{ℕ, zero, suc, ◌+◌, ◌-◌, ◌*◌, ◌/◌, ◌%◌
 use native.Mathlib.Decide.{dec_lt}
 use native.Mathlib.Omega.{arith}
 use lib.Dec.{ltb, leb}
-use lib.ListN.{length, length-append, get_or}
+use lib.ListN.{length, length-append, get_or, drop}
 use borrow.Author.Tests.{lt-ltb, le-leb, lt-leb, leb-true}
 use Rattle.std.specs.Prelude.{Option, None, Some}
 use Rattle.covering.specs.Sum.{if_set, sum}
@@ -23,19 +23,28 @@ pub bit_taken : {w w' b : ℕ} → (b < word_bits) × Next (has_bit w) 0 word_bi
     → TakesLeast bits_end bits_left (record { left = w }) b (record { left = w' })
 bit_taken {w} {w'} {b} n f = record { within = n.0; here = n.1.here n.0; before = λ j l. n.1.before j (omega arith) l; bound = refl; above = f b n.1 }
 
+-- a word that is that of s
+pub word_is : (s : Rows) (w : ℕ) → w ≡ s.word → (j : ℕ) → left_behind (w ∷ s.rest.now) s.base j ≡ rows_left s j
+word_is s w i j = ap (λ (x : ℕ). left_behind (x ∷ s.rest.now) s.base j) i
+
 -- a row of s, where as much is left as of a, and t has what is behind it
-pub row_taken : (a s t : Rows) (b : ℕ) → (s.end ≡ a.end) × ((j : ℕ) → rows_left s j ≡ rows_left a j) → (b < word_bits) × Next (has_bit s.word) 0 word_bits b
-    → ((b : ℕ) → Next (has_bit s.word) 0 word_bits b → (x : ℕ) → has_bit t.word x ≡ (ltb b x && has_bit s.word x)) → s.place * word_bits + b < s.end
-    → t.set.now ≡ s.set.now → t.place ≡ s.place → t.end ≡ s.end → TakesLeast rows_end rows_left a (s.place * word_bits + b) t
-row_taken a s t b h n f l p q r = record {
+pub row_taken : (a s t : Rows) (w v b : ℕ) → (s.end ≡ a.end) × ((j : ℕ) → rows_left s j ≡ rows_left a j) → w ≡ s.word → (b < word_bits) × Next (has_bit w) 0 word_bits b
+    → ((b : ℕ) → Next (has_bit w) 0 word_bits b → (x : ℕ) → has_bit v x ≡ (ltb b x && has_bit w x)) → t.word ≡ v → b < s.end - s.base → t.rest.now ≡ s.rest.now
+    → t.base ≡ s.base → t.end ≡ s.end → TakesLeast rows_end rows_left a (s.base + b) t
+row_taken a s t w v b h i n f k l p q r = record {
   within = omega (arith, h.0);
-  here = sym (h.1 (s.place * word_bits + b)) ∙ left_here s.set.now s.place s.word b n;
-  before = λ j k. sym (h.1 j) ∙ left_before s.set.now s.place s.word b n j k;
+  here = sym (h.1 (s.base + b)) ∙ sym (word_is s w i (s.base + b)) ∙ left_here w s.rest.now s.base b n;
+  before = λ j l. sym (h.1 j) ∙ sym (word_is s w i j) ∙ left_before w s.rest.now s.base b n j l;
   bound = r ∙ h.0;
   above = λ j.
-      ap₂ (λ (z : List ℕ) (k : ℕ). left_behind z k t.word j) p q ∙ left_after s.set.now s.place s.word b n t.word (f b n.1) j
-      ∙ ap (λ (x : Bool). ltb (s.place * word_bits + b) j && x) (h.1 j);
+      ap (λ (x : ℕ). left_behind (x ∷ t.rest.now) t.base j) k ∙ ap₂ (λ (z : List ℕ) (x : ℕ). left_behind (v ∷ z) x j) p q
+      ∙ left_after w s.rest.now s.base b n v (f b n.1) j ∙ ap (λ (x : Bool). ltb (s.base + b) j && x) (word_is s w i j ∙ h.1 j);
 }
+
+-- no row is left of s, where as much is left as of a
+pub none_left : (a s : Rows) (w : ℕ) → (s.end ≡ a.end) × ((j : ℕ) → rows_left s j ≡ rows_left a j) → w ≡ s.word
+    → ((j : ℕ) → j < s.end → left_behind (w ∷ s.rest.now) s.base j ≡ false) → (j : ℕ) → j < a.end → rows_left a j ≡ false
+none_left a s w h i f j l = sym (h.1 j) ∙ sym (word_is s w i j) ∙ f j (omega (arith, h.0))
 
 -- ---- the first row from `from` on, where the word of `from` loses its bits below
 
@@ -67,7 +76,7 @@ next_of set from end (Some x) a t e h l n =
 
 pub next_row : (set : List ℕ) (from end w v u : ℕ) → w ≡ get_or set (from / word_bits) 0 → ((x : ℕ) → has_bit v x ≡ has_bit w (x + from % word_bits))
     → ((x : ℕ) → has_bit u x ≡ has_raised v (from % word_bits) x) → (r : Option ℕ) (a t : Rows) → a.end ≡ end
-    → ((j : ℕ) → rows_left a j ≡ left_behind set (from / word_bits) u j) → from ≤ end → YieldsRows a r t → NextIfAny (member set) from end r
+    → ((j : ℕ) → rows_left a j ≡ left_behind (u ∷ drop (from / word_bits + 1) set) (from / word_bits * word_bits) j) → from ≤ end → YieldsRows a r t → NextIfAny (member set) from end r
 next_row set from end w v u e f g r a t l h k n =
     next_of set from end r a t l
     (λ j. h j ∙ left_from set from u (λ x m. bits_behind w v u (from % word_bits) x m f g ∙ ap (λ (z : ℕ). leb (from % word_bits) x && has_bit z x) e) j) k n

@@ -1,5 +1,5 @@
 -- What the iterators over sets have left, and what they give. Definitions only. Assumes nothing.
-use Rattle.std.specs.Prelude.{ℕ, ◌/◌, ◌%◌, Bool, ◌&&◌, ◌||◌, Option, eqb, ltb}
+use Rattle.std.specs.Prelude.{ℕ, ◌-◌, Bool, ◌&&◌, ◌∷◌, Option, leb}
 use Rattle.std.specs.Iterator.{Count}
 use Rattle.numbers.specs.Ascending.{YieldsBelow, left_count}
 use Rattle.matrix.specs.Sets.{RowSet, word_bits, has_bit, member}
@@ -25,12 +25,12 @@ bits_count = left_count bits_end bits_left
 abbrev pub rows_end : Rows → ℕ
 rows_end s = s.end
 
--- a row that is left: a bit of what is left of the word at a place, or of a word behind it
-abbrev pub left_behind : RowSet → ℕ → ℕ → ℕ → Bool
-left_behind set place word j = eqb (j / word_bits) place && has_bit word (j % word_bits) || ltb place (j / word_bits) && member set j
+-- a row that is left: of the words that are left the first has the rows from `base` on
+abbrev pub left_behind : RowSet → ℕ → ℕ → Bool
+left_behind words base j = leb base j && member words (j - base)
 
 abbrev pub rows_left : Rows → ℕ → Bool
-rows_left s j = left_behind s.set.now s.place s.word j
+rows_left s = left_behind (s.word ∷ s.rest.now) s.base
 
 abbrev pub YieldsRows : Rows → Option ℕ → Rows → Type 0
 YieldsRows = YieldsBelow rows_end rows_left

@@ -1,5 +1,5 @@
 // Sets of rows: arrays of twelve words of 64 bits.
-ghost use Rattle.std.specs.Prelude.{◌≡◌, true, false, not, ◌&&◌, ◌||◌, ℕ, ◌≤◌, ◌<◌, eqb, ltb, get_or, MatchOption};
+ghost use Rattle.std.specs.Prelude.{◌≡◌, true, false, not, ◌&&◌, ◌||◌, ℕ, ◌+◌, ◌≤◌, ◌<◌, eqb, ltb, drop, get_or, MatchOption};
 ghost use Rattle.covering.specs.Weighted.{set_size};
 ghost use Rattle.matrix.specs.Sets.{row_limit, row_words, member, Member, NextIfAny};
 
@@ -43,6 +43,16 @@ impl Set {
         ensures { result ≡ get_or self.now k 0 }
     {
         self.words[k]
+    }
+
+    // The words behind the word k.
+    #[inline]
+    fn behind(&self, k: usize) -> &[Word]
+        requires { k < row_words }
+        ensures { result.now ≡ drop (k + 1) self.now }
+    {
+        let words = &self.words[..];
+        &words[k + 1..]
     }
 
     // No row.
@@ -128,9 +138,9 @@ impl Set {
         ensures runs { EachRunFrom YieldsRows result (GivesBelow end (member self.now)) }
     {
         Rows {
-            set: self,
-            place: 0,
-            word: self.word(0),
+            word: u64::from(self.word(0)),
+            rest: self.behind(0),
+            base: 0,
             end,
         }
     }
@@ -145,13 +155,13 @@ impl Set {
         }
         let place = from / words::BITS;
         let word = self.word(place) >> from % words::BITS << from % words::BITS;
-        let mut rest = Rows {
-            set: self,
-            place,
-            word,
+        let mut left = Rows {
+            word: u64::from(word),
+            rest: self.behind(place),
+            base: place * words::BITS,
             end,
         };
-        rest.next()
+        left.next()
     }
 
     // How many rows before `end` a set has.
@@ -188,15 +198,14 @@ impl Set {
     }
 }
 
-// The rows of a set before `end`, ascending: what is left of the word at a place, and the words behind it.
+// The rows of a set before `end`, ascending: what is left of a word, whose first row is `base`, and the words behind it. The word is a number here, since
+// no adapter of an iterator is proved over a struct that holds a struct with a model beside a reference.
 #[derive(Clone, Copy)]
 pub struct Rows<'a> {
-    set: &'a Set,
-    place: usize,
-    word: Word,
+    word: u64,
+    rest: &'a [Word],
+    base: usize,
     end: usize,
-    ghost inside: { place < row_words },
-    ghost room: { end ≤ row_limit },
 }
 
 impl<'a> Iterator for Rows<'a> {
@@ -210,16 +219,22 @@ impl<'a> Iterator for Rows<'a> {
 
     #[inline]
     fn next(&mut self) -> Option<usize> {
-        while self.word.is_empty() {
-            if self.end <= (self.place + 1) * words::BITS {
+        while Word::from(self.word).is_empty() {
+            if self.end.saturating_sub(self.base) <= words::BITS {
                 return None;
             }
-            self.place += 1;
-            self.word = self.set.word(self.place);
+            let (word, rest) = self.rest.split_first()?;
+            self.word = u64::from(*word);
+            self.rest = rest;
+            self.base += words::BITS;
         }
-        let b = self.word.first()?;
-        self.word = self.word.without_first();
-        let i = self.place * words::BITS + b;
-        if i < self.end { Some(i) } else { None }
+        let word = Word::from(self.word);
+        let b = word.first()?;
+        self.word = u64::from(word.without_first());
+        if b < self.end.saturating_sub(self.base) {
+            Some(self.base + b)
+        } else {
+            None
+        }
     }
 }

@@ -37,6 +37,15 @@ impl From<u64> for Word {
     }
 }
 
+impl From<Word> for u64 {
+    ghost from_gives = { λ w r. r ≡ w };
+
+    #[inline]
+    fn from(word: Word) -> u64 {
+        word.0
+    }
+}
+
 impl Word {
     // No bit.
     pub const EMPTY: Word = Word(0);

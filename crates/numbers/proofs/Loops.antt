@@ -126,11 +126,11 @@ module _ {S : Type 0} (end : S → ℕ) (left : S → ℕ → Bool) where
     still : (j : ℕ) → left s j ≡ (leb (passed ys) j && left a j)
     within : passed ys ≤ end a
 
-  rising : (y : ℕ) (ys : List ℕ) (a s : S) → Yields (YieldsBelow end left) a (y ∷ ys) s → y < passed (y ∷ ys)
-  rising y [] a s h = omega arith
-  rising y (z ∷ ys) a s h =
+  rises : (y : ℕ) (ys : List ℕ) (a s : S) → Yields (YieldsBelow end left) a (y ∷ ys) s → y + length (y ∷ ys) ≤ passed (y ∷ ys)
+  rises y [] a s h = omega arith
+  rises y (z ∷ ys) a s h =
       let e : ltb y z ≡ true = (both_of (ltb y z) (left a z) (h.1.above z) h.2.1.here).0 in
-      omega (arith, ltb-true y z e, rising z ys h.0 s h.2)
+      omega (arith, ltb-true y z e, rises z ys h.0 s h.2)
 
   so_far : (ys : List ℕ) (a s : S) → Yields (YieldsBelow end left) a ys s → SoFar a s ys
   so_far [] a s h = subst (λ (s : S). SoFar a s []) h (record { bound = refl; still = λ j. sym (ap (λ (b : Bool). b && left a j) (le-leb 0 j (omega arith))); within = omega arith })
@@ -139,7 +139,7 @@ module _ {S : Type 0} (end : S → ℕ) (left : S → ℕ → Bool) where
       (record { bound = h.1.bound; still = λ j. h.1.above j ∙ ap (λ (n : ℕ). leb n j && left a j) (sym (add-one x)); within = omega (arith, h.1.within) })
   so_far (x ∷ y ∷ ys) a s h =
       let r = so_far (y ∷ ys) h.0 s h.2 in
-      let up : x < passed (y ∷ ys) = omega (arith, ltb-true x y (both_of (ltb x y) (left a y) (h.1.above y) h.2.1.here).0, rising y ys h.0 s h.2) in
+      let up : x < passed (y ∷ ys) = omega (arith, ltb-true x y (both_of (ltb x y) (left a y) (h.1.above y) h.2.1.here).0, rises y ys h.0 s h.2) in
       record {
         bound = r.bound ∙ h.1.bound;
         still = λ j. r.still j ∙ ap (λ (b : Bool). leb (passed (y ∷ ys)) j && b) (h.1.above j) ∙ skip (passed (y ∷ ys)) j up;
@@ -161,7 +161,7 @@ module _ {S : Type 0} (end : S → ℕ) (left : S → ℕ → Bool) where
       let n : those (x + 1) (left h.0) ≡ [] = those_none (x + 1) (left h.0) (λ j l t. subst T (h.1.above j ∙ ap (λ (b : Bool). b && left a j) (le-ltb x j (omega arith))) t) in
       ap (λ (ys : List ℕ). x ∷ ys) (sym n) ∙ sym (those_front (x + 1) (left a) (left h.0) x (omega arith) h.1.here h.1.before h.1.above)
   items_are (x ∷ y ∷ ys) a s h =
-      let up : x < passed (y ∷ ys) = omega (arith, ltb-true x y (both_of (ltb x y) (left a y) (h.1.above y) h.2.1.here).0, rising y ys h.0 s h.2) in
+      let up : x < passed (y ∷ ys) = omega (arith, ltb-true x y (both_of (ltb x y) (left a y) (h.1.above y) h.2.1.here).0, rises y ys h.0 s h.2) in
       ap (λ (ys : List ℕ). x ∷ ys) (items_are (y ∷ ys) h.0 s h.2) ∙ sym (those_front (passed (y ∷ ys)) (left a) (left h.0) x up h.1.here h.1.before h.1.above)
 
   -- an item of the loop
@@ -228,8 +228,16 @@ module _ {S : Type 0} (end : S → ℕ) (left : S → ℕ → Bool) where
 
   -- what a run gives, where n is the bound at its start and p tells what is left there
   module _ (r : Run (YieldsBelow end left)) (n : ℕ) (p : ℕ → Bool) (e : end r.from ≡ n) (f : (j : ℕ) → left r.from j ≡ p j) where
+    gives_few : (xs : List ℕ) → Yields (YieldsBelow end left) r.from xs (took r).0 → length xs ≤ n
+    gives_few [] y = omega arith
+    gives_few (x ∷ xs) y = omega (arith, rises x xs r.from (took r).0 y, (so_far (x ∷ xs) r.from (took r).0 y).within)
+
     gives_those : GivesThose n p r
-    gives_those k = at (r.at k) (subst (λ (o : Option ℕ). IfSome o (λ x. (x < end r.from) × (left r.from x ≡ true))) (sym (at-is r k)) (those_at r.items r.from (took r).0 (took r).1 k))
+    gives_those = (
+      omega (arith, r.long, gives_few r.items (took r).1),
+      λ k. at (r.at k)
+          (subst (λ (o : Option ℕ). IfSome o (λ x. (x < end r.from) × (left r.from x ≡ true))) (sym (at-is r k)) (those_at r.items r.from (took r).0 (took r).1 k)),
+    )
       where
         at : (o : Option ℕ) → IfSome o (λ x. (x < end r.from) × (left r.from x ≡ true)) → IfSome o (λ x. (x < n) × (p x ≡ true))
         at None i = tt

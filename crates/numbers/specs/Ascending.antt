@@ -31,9 +31,9 @@ passed (x ∷ []) = x + 1
 passed (x ∷ y ∷ ys) = passed (y ∷ ys)
 
 module _ (n : ℕ) (p : ℕ → Bool) {S : Type 0} {steps : S → Option ℕ → S → Type 0} (r : Run steps) where
-  -- its items are numbers below n that p holds of
+  -- its items are numbers below n that p holds of, and no more of them than n
   abbrev pub GivesThose : Type 0
-  GivesThose = AllItems r (λ x. (x < n) × (p x ≡ true))
+  GivesThose = (r.len ≤ n) × AllItems r (λ x. (x < n) × (p x ≡ true))
 
   -- of each number that was passed over p does not hold
   abbrev pub GivesLeast : Type 0

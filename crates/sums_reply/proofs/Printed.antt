@@ -1,11 +1,11 @@
--- What is printed by the keep-out call's answer is what `text` defines for a table: the line of the list that the arrays hold, or the refusal.
+-- What the keep-out call answers is what a program is to show for a table: the line of the list that the arrays hold, or the refusal.
 -- Assumes nothing.
 use mathlib.Core.Path.{◌≡◌, sym, ◌∙◌}
 use mathlib.Core.List.{List}
 use Prim.Native.Nat.{ℕ, ◌-◌, ◌^◌, ◌≤◌}
-use native.Mathlib.Nat.{le_trans}
 use native.Mathlib.Omega.{arith}
-use lib.ListN.{length}
+use lib.ListN.{length, take}
+use lib.Seq.{length-take-le}
 use Rattle.cube.specs.Words.{first_rows}
 use Rattle.cube.specs.Calls.{widest, first_of, table_conditions}
 use Rattle.cube.proofs.Calls.{accepted, code_pairs_most}
@@ -17,9 +17,7 @@ use Rattle.keep_out.specs.KeepOut.{MayKeepOut, PlansKeepOut}
 use Rattle.keep_out.specs.Theorems.{exchanged, HeldKeepOut}
 use Rattle.keep_out.proofs.Exchanging.{exchange}
 use Rattle.keep_out.proofs.Theorems.{plans_exchanged, arrays_keep_out}
-use Rattle.text.specs.Output.{refused, Prints}
-use Rattle.text.specs.Steps.{PrintsTable}
-use Rattle.text.proofs.Replies.{list_printed, refusal_printed}
+use Rattle.text.specs.Steps.{ShowsTable, RefusesTable}
 use Rattle.product.specs.Product.{excluding_line}
 use Rattle.product.specs.Steps.{most_line, PrintableLine}
 use Rattle.product.proofs.Lengths.{line_fits}
@@ -36,24 +34,26 @@ module _ (n : ℕ) (t values cares values' cares' : List ℕ) (v : 2 ^ (widest -
     table_accepted : first_of (table_conditions n t) ≡ 0
     table_accepted = sym refusal_is ∙ not_refused n (exchanged t) values cares values' cares' rows bits ((plans_exchanged n t values cares values' cares' (Rows rows bits)).0 p)
 
-    pub printable : (out : List ℕ) → most_line ≤ length out → PrintableLine n values' cares' rows out
-    printable out room =
+    pub line_printable : PrintableLine n (take rows values') (take rows cares') most_line
+    line_printable =
         let width = (accepted n t table_accepted).to in
+        let list = first_rows rows values' cares' in
         record {
           width = omega arith;
-          values_long = keeps.held.enough_values;
-          cares_long = keeps.held.enough_cares;
-          room = le_trans (line_fits n (first_rows rows values' cares') width (omega (arith, keeps.held.row_count, keeps.held.few, code_pairs_most n width))) room;
+          same = length-take-le rows values' keeps.held.enough_values ∙ sym (length-take-le rows cares' keeps.held.enough_cares);
+          room = line_fits n list width (omega (arith, keeps.held.row_count, keeps.held.few, code_pairs_most n width));
         }
 
-    pub line_printed : (old new : List ℕ) (r : ℕ) → Prints (excluding_line n (first_rows rows values' cares')) old new r
-        → PrintsTable excluding_line MayKeepOut n t old new r
-    line_printed old new r q =
-        list_printed n t old new r (first_rows rows values' cares') table_accepted (record { minimum = keeps.minimum; is_ascending = keeps.held.is_ascending }) q
+    pub shows_line : {text : List ℕ} → text ≡ excluding_line n (first_rows rows values' cares') → ShowsTable excluding_line MayKeepOut n t text
+    shows_line e = record {
+      accepted = table_accepted;
+      list = first_rows rows values' cares';
+      is_written = record { minimum = keeps.minimum; is_ascending = keeps.held.is_ascending };
+      is_text = e;
+    }
 
-  pub keep_out_refusal_printed : (k : ℕ) → PlansKeepOut n t values cares values' cares' (Refused k) → (old new : List ℕ) (r : ℕ) → Prints (refused k) old new r
-      → PrintsTable excluding_line MayKeepOut n t old new r
-  keep_out_refusal_printed k p old new r q =
+  pub refuses_keep_out : (k : ℕ) → PlansKeepOut n t values cares values' cares' (Refused k) → RefusesTable n t k
+  refuses_keep_out k p =
       let plans = (plans_exchanged n t values cares values' cares' (Refused k)).0 p in
       let number = refused_by n (exchanged t) values cares values' cares' k plans in
-      refusal_printed n t old new r k (sym refusal_is ∙ number) (λ z. accepted_refused n (exchanged t) values cares values' cares' k plans (number ∙ z)) q
+      record { number = sym refusal_is ∙ number; refused = λ z. accepted_refused n (exchanged t) values cares values' cares' k plans (number ∙ z) }

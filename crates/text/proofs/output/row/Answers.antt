@@ -1,35 +1,43 @@
 -- `text::output::row` meets its contract: at each turn the characters of the variables before x(i + 1) are written. Assumes nothing.
-use mathlib.Core.Path.{◌≡◌, sym, ap, ◌∙◌, subst}
-use mathlib.Core.List.{List, [], ◌∷◌, ◌++◌}
-use Prim.Native.Nat.{ℕ, ◌+◌}
-use native.Mathlib.Numerals.{add-one}
-use native.Mathlib.Omega.{arith}
-use borrow.Author.Rules.{rules}
+use Rattle.std.proofs.Common.{rules, ℕ, ◌+◌, ◌≡◌, List, [], ◌∷◌, ◌++◌, length, arith, ap, sym, ◌∙◌, append-nil, append_assoc, length-append, add-one, lit<}
+use Rattle.std.proofs.lemmas.Str.{encode_ascii}
 use Rattle.numbers.specs.Below.{tabulate}
-use Rattle.numbers.proofs.Below.{tabulate_more}
-use Rattle.numbers.specs.Lent.{Puts}
-use Rattle.numbers.proofs.Lent.{puts_append}
-use Rattle.text.proofs.Lines.{puts_start, puts_turn}
+use Rattle.numbers.proofs.Below.{tabulate_more, tabulate-length}
+use Rattle.text.specs.Output.{character_of_variable}
+use Rattle.text.specs.Characters.{line_feed}
 use Rattle.text.proofs.output.row.Goals as goal
 
-module _ (f : ℕ → ℕ) where
-  none : (old : List ℕ) (at : ℕ) → Puts (tabulate 0 1 f) old at old (at + 0)
+module _ (f : ℕ → ℕ) (old : List ℕ) where
+  none : old ≡ old ++ tabulate 0 1 f
   unfolding tabulate
-  none old at = puts_start old at
+  none = sym (append-nil old)
 
-  one_more : (i x : ℕ) → x ≡ f (i + 1) → tabulate (i + 1) 1 f ≡ tabulate i 1 f ++ (x ∷ [])
-  one_more i x e =
-      let next : 1 + i ≡ i + 1 = omega arith in
-      ap (λ (k : ℕ). tabulate k 1 f) (add-one i) ∙ tabulate_more f i 1 ∙ ap (λ (y : ℕ). tabulate i 1 f ++ (y ∷ [])) (ap f next ∙ sym e)
+  -- one more character
+  more : (now next : List ℕ) (i x : ℕ) → now ≡ old ++ tabulate i 1 f → x ≡ f (i + 1) → next ≡ now ++ x ∷ [] → next ≡ old ++ tabulate (i + 1) 1 f
+  more now next i x e v n =
+      let there : 1 + i ≡ i + 1 = omega arith in
+      let one = ap (λ (y : ℕ). tabulate i 1 f ++ y ∷ []) (v ∙ ap f (sym there)) ∙ sym (tabulate_more f i 1) ∙ ap (λ (j : ℕ). tabulate j 1 f) (sym (add-one i)) in
+      n ∙ ap (λ (l : List ℕ). l ++ x ∷ []) e ∙ append_assoc old (tabulate i 1 f) (x ∷ []) ∙ ap (λ (l : List ℕ). old ++ l) one
 
-  all : {old new : List ℕ} {at : ℕ} (i n : ℕ) → i ≡ n → Puts (tabulate i 1 f) old at new (at + i) → Puts (tabulate n 1 f) old at new (at + n)
-  all {old} {new} {at} i n e h = subst (λ (k : ℕ). Puts (tabulate k 1 f) old at new (at + k)) e h
+  long : (now : List ℕ) (i : ℕ) → now ≡ old ++ tabulate i 1 f → length now ≡ length old + i
+  long now i e = ap length e ∙ length-append old (tabulate i 1 f) ∙ ap (λ (j : ℕ). length old + j) (tabulate-length f i 1)
 
 pub loop-i-init : goal.loop-i-init
-loop-i-init c = (search rules, search rules, search rules, none _ _ _)
+loop-i-init g c = none _ _
+
+pub push-requires : goal.push-requires
+push-requires g c =
+    (search rules, omega (arith, ap length (encode_ascii c.character.result c.character.ensures.ascii), long _ _ _ _ c.loop-i.invariant, c.requires))
 
 pub loop-i-preserved : goal.loop-i-preserved
-loop-i-preserved c = let i = c.loop-i.invariant in (i.0, i.1, omega arith, puts_turn _ _ (one_more _ _ _ c.character.ensures) i.3)
+loop-i-preserved g c = more _ _ _ _ _ _ c.loop-i.invariant c.character.ensures.value (c.push.ensures.ascii c.character.ensures.ascii)
+
+pub push-requires-2 : goal.push-requires-2
+push-requires-2 g c = (search rules, omega (arith, ap length (encode_ascii line_feed (lit< tt)), long _ _ _ _ c.loop-i.invariant, c.requires))
 
 pub returns : goal.returns
-returns c = puts_append (all _ _ _ (omega arith) c.loop-i.invariant.3) c.line_feed.ensures
+returns g c =
+    let f : ℕ → ℕ = character_of_variable c.args.n (record { value = c.args.value; care = c.args.care }) in
+    let all : c.loop-i.i ≡ c.args.n = omega arith in
+    c.push-2.ensures.ascii (lit< tt) ∙ ap (λ (l : List ℕ). l ++ line_feed ∷ []) (c.loop-i.invariant ∙ ap (λ (i : ℕ). c.args.out.now.bytes ++ tabulate i 1 f) all)
+    ∙ append_assoc c.args.out.now.bytes (tabulate c.args.n 1 f) (line_feed ∷ [])

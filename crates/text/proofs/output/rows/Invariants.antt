@@ -1,15 +1,12 @@
--- `text::output::rows` meets its contract: at each turn the lines of the rows before i are written. Assumes nothing.
-use Prim.Native.Nat.{◌-◌, ◌≤◌}
-use Rattle.cube.specs.Words.{first_rows}
-use Rattle.numbers.specs.Lent.{Puts}
+-- `text::output::rows` meets its contract: at each turn the lines of the rows that are left are left to write. Assumes nothing.
+use Rattle.std.proofs.Common.{◌≡◌, ◌++◌}
+use Rattle.std.specs.Slice.Iter.{iter_rest}
+use Rattle.std.specs.Iterator.Adapters.{zip_first, zip_second}
+use Rattle.cube.specs.Words.{rows_of}
 use Rattle.text.specs.Output.{list_lines}
-use Rattle.text.specs.Steps.{Printable}
 use Rattle.text.proofs.output.rows.Given as goal
 
-abbrev pub invariant-loop-i : goal.invariant-loop-i
-invariant-loop-i l =
-    Printable l.n l.values l.cares l.count l.initial.out × (l.i ≤ l.count) ×
-    Puts (list_lines l.n (first_rows l.i l.values l.cares)) l.initial.out 0 l.out l.place
-
-abbrev pub decreases-loop-i : goal.decreases-loop-i
-decreases-loop-i l = l.count - l.i
+abbrev pub invariant-loop-value : goal.invariant-loop-value
+invariant-loop-value g l =
+    l.out.bytes ++ list_lines l.n (rows_of (iter_rest (zip_first l.value-iterator)) (iter_rest (zip_second l.value-iterator)))
+    ≡ l.initial.out.bytes ++ list_lines l.n (rows_of l.values l.cares)
