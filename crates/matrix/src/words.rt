@@ -11,8 +11,8 @@ use std::ops::{BitAnd, BitOr, Shl, Shr, Sub};
 // The bits of a word.
 pub const BITS: usize = 64;
 
-// A word.
-#[derive(Clone, Copy, PartialEq, Eq)]
+// A word. By default it has no bit.
+#[derive(Clone, Copy, Default, PartialEq, Eq)]
 #[repr(C)]
 pub struct Word(u64);
 
