@@ -118,7 +118,7 @@ impl Set {
         set
     }
 
-    // The rows that the other set lacks.
+    // The rows that the other set lacks. (Not one function with `union`: to a closure for the word it would have to promise the lengths of three lists.)
     pub fn difference(&self, other: &Set) -> Set
         ensures { (j : ℕ) → member result j ≡ (member self.now j && not (member other.now j)) }
     {
