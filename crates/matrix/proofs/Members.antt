@@ -1,15 +1,17 @@
 -- Sets of rows as words: what a word put in changes, two sets joined word by word, and the first row of a set. Assumes nothing.
 use mathlib.Core.Path.{◌≡◌, refl, sym, ap, ap₂, ◌∙◌}
 use mathlib.Core.List.{List}
-use mathlib.Core.Bool.{Bool, true, false, ◌||◌}
+use mathlib.Core.Bool.{Bool, true, false, not, ◌&&◌, ◌||◌, or-false}
 use Prim.Native.Nat.{ℕ, ◌+◌, ◌*◌, ◌/◌, ◌%◌, ◌≤◌, ◌<◌}
 use native.Mathlib.Decide.{ℕ_discrete, dec_lt}
 use native.Mathlib.Omega.{arith}
-use lib.Dec.{eqb, ltb}
+use lib.Dec.{eqb, ltb, leb}
 use lib.ListN.{length, get_or, set, replicate, length-set, length-replicate, get_or-replicate, get_or-eq_default}
 use lib.Seq.{get_or-set_same, get_or-set_other}
-use borrow.Author.Tests.{eq-eqb, ne_eqb, lt-ltb, le-ltb}
+use borrow.Author.Tests.{eq-eqb, ne_eqb, lt-ltb, le-ltb, le-leb, lt-leb}
 use Rattle.matrix.specs.Sets.{word_bits, row_words, has_bit, member, Next}
+use Rattle.matrix.specs.Walks.{left_behind}
+use Rattle.numbers.proofs.Flags.{not_set}
 use Rattle.matrix.proofs.Bits.{has_zero}
 
 -- past a list's end there is no row
@@ -58,6 +60,10 @@ below_more j i = go (ℕ_discrete j i) (dec_lt j i)
 
 -- ---- two sets joined word by word, by an operation on flags
 
+-- of two flags the first alone
+abbrev pub lacking : Bool → Bool → Bool
+lacking x y = x && not y
+
 -- the words of s before k are those of a and b joined, and the others are those of a
 pub record Joined (op : Bool → Bool → Bool) (a b s : List ℕ) (k : ℕ) : Type 0 where
   pub long : length s ≡ row_words
@@ -90,32 +96,108 @@ module _ (op : Bool → Bool → Bool) (a b : List ℕ) where
       go (yes n) = h.done (j / word_bits) (j % word_bits) (omega arith)
       go (no n) = member_past s j (omega (arith, h.long)) ∙ sym e ∙ ap₂ op (sym (member_past a j (omega arith))) (sym (member_past b j (omega arith)))
 
--- ---- the first row
+-- ---- going through the rows
 
--- what stands in the word of the row i from that row on
-word_before : (s : List ℕ) (i c j : ℕ) → Next (has_bit (get_or s (i / word_bits) 0)) (i % word_bits) word_bits c → i ≤ j → j < i / word_bits * word_bits + c → member s j ≡ false
-unfolding member
-word_before s i c j h l m = let e : j / word_bits ≡ i / word_bits = omega (arith, h.within) in
-    ap (λ (x : ℕ). has_bit (get_or s x 0) (j % word_bits)) e ∙ h.before (j % word_bits) (omega arith) (omega arith)
+module _ (set : List ℕ) where
+  -- what is left, of a row before the word at the place, in it, and behind it
+  module _ (place word j : ℕ) where
+    left_no : j / word_bits < place → left_behind set place word j ≡ false
+    left_no l =
+        ap (λ (b : Bool). b && has_bit word (j % word_bits) || ltb place (j / word_bits) && member set j) (ne_eqb (j / word_bits) place (λ z. omega arith))
+        ∙ ap (λ (b : Bool). b && member set j) (le-ltb place (j / word_bits) (omega arith))
 
-word_here : (s : List ℕ) (i c : ℕ) → Next (has_bit (get_or s (i / word_bits) 0)) (i % word_bits) word_bits c → c < word_bits → member s (i / word_bits * word_bits + c) ≡ true
-unfolding member
-word_here s i c h l =
-    let e : (i / word_bits * word_bits + c) / word_bits ≡ i / word_bits = omega arith in
-    let f : (i / word_bits * word_bits + c) % word_bits ≡ c = omega arith in
-    ap (λ (x : ℕ). has_bit (get_or s x 0) ((i / word_bits * word_bits + c) % word_bits)) e ∙ ap (has_bit (get_or s (i / word_bits) 0)) f ∙ h.here l
+    left_bit : j / word_bits ≡ place → left_behind set place word j ≡ has_bit word (j % word_bits)
+    left_bit e =
+        ap (λ (b : Bool). b && has_bit word (j % word_bits) || ltb place (j / word_bits) && member set j) (eq-eqb (j / word_bits) place e)
+        ∙ ap (λ (b : Bool). has_bit word (j % word_bits) || b && member set j) (le-ltb place (j / word_bits) (omega arith)) ∙ or-false (has_bit word (j % word_bits))
 
-module _ (s : List ℕ) (from end i c : ℕ) (passed : (j : ℕ) → from ≤ j → j < i → member s j ≡ false) (word : Next (has_bit (get_or s (i / word_bits) 0)) (i % word_bits) word_bits c) where
-  -- no row stands before the one that the word of i shows
-  pub passed_word : (j : ℕ) → from ≤ j → j < i / word_bits * word_bits + c → member s j ≡ false
-  passed_word j l m = go (dec_lt j i)
+    left_row : place < j / word_bits → left_behind set place word j ≡ member set j
+    left_row l =
+        ap (λ (b : Bool). b && has_bit word (j % word_bits) || ltb place (j / word_bits) && member set j) (ne_eqb (j / word_bits) place (λ z. omega arith))
+        ∙ ap (λ (b : Bool). b && member set j) (lt-ltb place (j / word_bits) l)
+
+  -- a word of the set has the rows of its place
+  bit_row : (place j : ℕ) {w : ℕ} → w ≡ get_or set place 0 → j / word_bits ≡ place → has_bit w (j % word_bits) ≡ member set j
+  unfolding member
+  bit_row place j e h = ap (λ (x : ℕ). has_bit x (j % word_bits)) (e ∙ ap (λ (k : ℕ). get_or set k 0) (sym h))
+
+  -- at first each row of the set is left
+  pub left_first : (w : ℕ) → w ≡ get_or set 0 0 → (j : ℕ) → left_behind set 0 w j ≡ member set j
+  left_first w e j = go (dec_lt 0 (j / word_bits))
     where
-      go : Dec (j < i) → member s j ≡ false
-      go (yes n) = passed j l n
-      go (no n) = word_before s i c j word (omega arith) m
+      go : Dec (0 < j / word_bits) → left_behind set 0 w j ≡ member set j
+      go (yes l) = left_row 0 w j l
+      go (no n) = left_bit 0 w j (omega arith) ∙ bit_row 0 j e (omega arith)
 
-  pub next_found : from ≤ i → c < word_bits → i / word_bits * word_bits + c < end → Next (member s) from end (i / word_bits * word_bits + c)
-  next_found f l h = record { above = omega (arith, word.above); within = omega arith; before = passed_word; here = λ n. word_here s i c word l }
+  module _ (place word : ℕ) where
+    module _ (none : (b : ℕ) → has_bit word b ≡ true → ⊥) where
+      -- where no bit is left of the word, what is left begins with the next word
+      pub left_next : (w : ℕ) → w ≡ get_or set (place + 1) 0 → (j : ℕ) → left_behind set (place + 1) w j ≡ left_behind set place word j
+      left_next w e j = go (dec_lt (j / word_bits) place) (dec_lt place (j / word_bits)) (dec_lt (place + 1) (j / word_bits))
+        where
+          go : Dec (j / word_bits < place) → Dec (place < j / word_bits) → Dec (place + 1 < j / word_bits) → left_behind set (place + 1) w j ≡ left_behind set place word j
+          go (yes l) d f = left_no (place + 1) w j (omega arith) ∙ sym (left_no place word j l)
+          go (no n) (no m) f = left_no (place + 1) w j (omega arith) ∙ sym (left_bit place word j (omega arith) ∙ not_set _ (none (j % word_bits)))
+          go (no n) (yes l) (no m) = left_bit (place + 1) w j (omega arith) ∙ bit_row (place + 1) j e (omega arith) ∙ sym (left_row place word j l)
+          go (no n) (yes l) (yes m) = left_row (place + 1) w j m ∙ sym (left_row place word j l)
 
-  pub next_past : from ≤ end → end ≤ i / word_bits * word_bits + c → Next (member s) from end end
-  next_past f h = record { above = f; within = omega arith; before = λ j l m. passed_word j l (omega arith); here = λ n. absurd (omega arith) }
+      -- and nothing is left where the word is the last
+      pub left_none : (end : ℕ) → end ≤ (place + 1) * word_bits → (j : ℕ) → j < end → left_behind set place word j ≡ false
+      left_none end l j m = go (dec_lt (j / word_bits) place)
+        where
+          go : Dec (j / word_bits < place) → left_behind set place word j ≡ false
+          go (yes n) = left_no place word j n
+          go (no n) = left_bit place word j (omega arith) ∙ not_set _ (none (j % word_bits))
+
+    -- the first bit of the word is the first row that is left
+    module _ (b : ℕ) (first : (b < word_bits) × Next (has_bit word) 0 word_bits b) where
+      pub left_here : left_behind set place word (place * word_bits + b) ≡ true
+      left_here = let e : (place * word_bits + b) % word_bits ≡ b = omega (arith, first.0) in
+          left_bit place word (place * word_bits + b) (omega (arith, first.0)) ∙ ap (has_bit word) e ∙ first.1.here first.0
+
+      pub left_before : (j : ℕ) → j < place * word_bits + b → left_behind set place word j ≡ false
+      left_before j l = go (dec_lt (j / word_bits) place)
+        where
+          go : Dec (j / word_bits < place) → left_behind set place word j ≡ false
+          go (yes n) = left_no place word j n
+          go (no n) = left_bit place word j (omega (arith, first.0)) ∙ first.1.before (j % word_bits) (omega arith) (omega (arith, first.0))
+
+      pub left_after : (w : ℕ) → ((x : ℕ) → has_bit w x ≡ (ltb b x && has_bit word x)) → (j : ℕ)
+          → left_behind set place w j ≡ (ltb (place * word_bits + b) j && left_behind set place word j)
+      left_after w e j = go (dec_lt (j / word_bits) place) (dec_lt place (j / word_bits))
+        where
+          same : j / word_bits ≡ place → ltb b (j % word_bits) ≡ ltb (place * word_bits + b) j
+          same d = at (dec_lt b (j % word_bits))
+            where
+              at : Dec (b < j % word_bits) → ltb b (j % word_bits) ≡ ltb (place * word_bits + b) j
+              at (yes l) = lt-ltb b (j % word_bits) l ∙ sym (lt-ltb (place * word_bits + b) j (omega arith))
+              at (no n) = le-ltb b (j % word_bits) (omega arith) ∙ sym (le-ltb (place * word_bits + b) j (omega arith))
+
+          go : Dec (j / word_bits < place) → Dec (place < j / word_bits) → left_behind set place w j ≡ (ltb (place * word_bits + b) j && left_behind set place word j)
+          go (yes l) d = left_no place w j l ∙ sym (ap (λ (t : Bool). t && left_behind set place word j) (le-ltb (place * word_bits + b) j (omega arith)))
+          go (no n) (yes l) =
+              left_row place w j l ∙ sym (left_row place word j l)
+              ∙ sym (ap (λ (t : Bool). t && left_behind set place word j) (lt-ltb (place * word_bits + b) j (omega (arith, first.0))))
+          go (no n) (no m) =
+              left_bit place w j (omega arith) ∙ e (j % word_bits) ∙ ap (λ (t : Bool). t && has_bit word (j % word_bits)) (same (omega arith))
+              ∙ ap (λ (t : Bool). ltb (place * word_bits + b) j && t) (sym (left_bit place word j (omega arith)))
+
+  -- the rows from `from` on are what is left where the word has lost its bits below
+  pub left_from : (from w : ℕ) → ((x : ℕ) → x < word_bits → has_bit w x ≡ (leb (from % word_bits) x && has_bit (get_or set (from / word_bits) 0) x)) → (j : ℕ)
+      → left_behind set (from / word_bits) w j ≡ (leb from j && member set j)
+  left_from from w e j = go (dec_lt (j / word_bits) (from / word_bits)) (dec_lt (from / word_bits) (j / word_bits))
+    where
+      same : j / word_bits ≡ from / word_bits → leb (from % word_bits) (j % word_bits) ≡ leb from j
+      same d = at (dec_lt j from)
+        where
+          at : Dec (j < from) → leb (from % word_bits) (j % word_bits) ≡ leb from j
+          at (yes l) = lt-leb (from % word_bits) (j % word_bits) (omega arith) ∙ sym (lt-leb from j l)
+          at (no n) = le-leb (from % word_bits) (j % word_bits) (omega arith) ∙ sym (le-leb from j (omega arith))
+
+      go : Dec (j / word_bits < from / word_bits) → Dec (from / word_bits < j / word_bits) → left_behind set (from / word_bits) w j ≡ (leb from j && member set j)
+      go (yes l) d = left_no (from / word_bits) w j l ∙ sym (ap (λ (t : Bool). t && member set j) (lt-leb from j (omega arith)))
+      go (no n) (yes l) = left_row (from / word_bits) w j l ∙ sym (ap (λ (t : Bool). t && member set j) (le-leb from j (omega arith)))
+      go (no n) (no m) =
+          left_bit (from / word_bits) w j (omega arith) ∙ e (j % word_bits) (omega arith)
+          ∙ ap (λ (t : Bool). leb (from % word_bits) (j % word_bits) && t) (bit_row (from / word_bits) j refl (omega arith))
+          ∙ ap (λ (t : Bool). t && member set j) (same (omega arith))

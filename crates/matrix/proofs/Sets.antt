@@ -1,0 +1,87 @@
+-- What the iterators over sets take, and what a loop over a set may use. Assumes nothing.
+use mathlib.Core.Path.{◌≡◌, refl, sym, ap, ap₂, ◌∙◌}
+use mathlib.Core.List.{List, [], ◌∷◌}
+use mathlib.Core.Bool.{Bool, true, false, cond, ◌&&◌}
+use Prim.Native.Nat.{ℕ, zero, suc, ◌+◌, ◌-◌, ◌*◌, ◌/◌, ◌%◌, ◌≤◌, ◌<◌}
+use native.Mathlib.Decide.{dec_lt}
+use native.Mathlib.Omega.{arith}
+use lib.Dec.{ltb, leb}
+use lib.ListN.{length, length-append, get_or}
+use borrow.Author.Tests.{lt-ltb, le-leb, lt-leb, leb-true}
+use Rattle.std.specs.Prelude.{Option, None, Some}
+use Rattle.covering.specs.Sum.{if_set, sum}
+use Rattle.covering.specs.Weighted.{set_size}
+use Rattle.numbers.specs.Below.{those}
+use Rattle.numbers.proofs.Flags.{both_of}
+use Rattle.numbers.specs.Ascending.{TakesLeast}
+use Rattle.matrix.specs.Sets.{word_bits, has_bit, has_raised, member, Next, NextIfAny}
+use Rattle.matrix.specs.Walks.{bits_end, bits_left, left_behind, rows_end, rows_left, YieldsRows}
+use Rattle.matrix.proofs.Members.{left_here, left_before, left_after, left_from}
+use Rattle.matrix.specs.declared.rows.Rows.{Rows}
+
+pub bit_taken : {w w' b : ℕ} → (b < word_bits) × Next (has_bit w) 0 word_bits b → ((b : ℕ) → Next (has_bit w) 0 word_bits b → (x : ℕ) → has_bit w' x ≡ (ltb b x && has_bit w x))
+    → TakesLeast bits_end bits_left (record { left = w }) b (record { left = w' })
+bit_taken {w} {w'} {b} n f = record { within = n.0; here = n.1.here n.0; before = λ j l. n.1.before j (omega arith) l; bound = refl; above = f b n.1 }
+
+-- a row of s, where as much is left as of a, and t has what is behind it
+pub row_taken : (a s t : Rows) (b : ℕ) → (s.end ≡ a.end) × ((j : ℕ) → rows_left s j ≡ rows_left a j) → (b < word_bits) × Next (has_bit s.word) 0 word_bits b
+    → ((b : ℕ) → Next (has_bit s.word) 0 word_bits b → (x : ℕ) → has_bit t.word x ≡ (ltb b x && has_bit s.word x)) → s.place * word_bits + b < s.end
+    → t.set.now ≡ s.set.now → t.place ≡ s.place → t.end ≡ s.end → TakesLeast rows_end rows_left a (s.place * word_bits + b) t
+row_taken a s t b h n f l p q r = record {
+  within = omega (arith, h.0);
+  here = sym (h.1 (s.place * word_bits + b)) ∙ left_here s.set.now s.place s.word b n;
+  before = λ j k. sym (h.1 j) ∙ left_before s.set.now s.place s.word b n j k;
+  bound = r ∙ h.0;
+  above = λ j.
+      ap₂ (λ (z : List ℕ) (k : ℕ). left_behind z k t.word j) p q ∙ left_after s.set.now s.place s.word b n t.word (f b n.1) j
+      ∙ ap (λ (x : Bool). ltb (s.place * word_bits + b) j && x) (h.1 j);
+}
+
+-- ---- the first row from `from` on, where the word of `from` loses its bits below
+
+bits_behind : (w v u f x : ℕ) → x < word_bits → ((x : ℕ) → has_bit v x ≡ has_bit w (x + f)) → ((x : ℕ) → has_bit u x ≡ has_raised v f x) → has_bit u x ≡ (leb f x && has_bit w x)
+bits_behind w v u f x l g h = h x ∙ ap (λ (b : Bool). b && (leb f x && has_bit v (x - f))) (lt-ltb x word_bits l) ∙ go (dec_lt x f)
+  where
+    go : Dec (x < f) → (leb f x && has_bit v (x - f)) ≡ (leb f x && has_bit w x)
+    go (yes k) = ap (λ (b : Bool). b && has_bit v (x - f)) (lt-leb f x k) ∙ sym (ap (λ (b : Bool). b && has_bit w x) (lt-leb f x k))
+    go (no n) = let e : x - f + f ≡ x = omega arith in ap (λ (b : Bool). leb f x && b) (g (x - f) ∙ ap (has_bit w) e)
+
+next_of : (set : List ℕ) (from end : ℕ) (r : Option ℕ) (a t : Rows) → a.end ≡ end → ((j : ℕ) → rows_left a j ≡ (leb from j && member set j)) → from ≤ end → YieldsRows a r t
+    → NextIfAny (member set) from end r
+next_of set from end None a t e h l n = record {
+  above = l;
+  within = omega arith;
+  before = λ j k m. sym (h j ∙ ap (λ (b : Bool). b && member set j) (le-leb from j k)) ∙ n j (omega arith);
+  here = λ k. absurd (omega arith);
+}
+next_of set from end (Some x) a t e h l n =
+    let b = both_of (leb from x) (member set x) (h x) n.here in (
+      omega (arith, n.within),
+      record {
+        above = leb-true from x b.0;
+        within = omega (arith, n.within);
+        before = λ j k m. sym (h j ∙ ap (λ (b : Bool). b && member set j) (le-leb from j k)) ∙ n.before j m;
+        here = λ k. b.1;
+      },
+    )
+
+pub next_row : (set : List ℕ) (from end w v u : ℕ) → w ≡ get_or set (from / word_bits) 0 → ((x : ℕ) → has_bit v x ≡ has_bit w (x + from % word_bits))
+    → ((x : ℕ) → has_bit u x ≡ has_raised v (from % word_bits) x) → (r : Option ℕ) (a t : Rows) → a.end ≡ end
+    → ((j : ℕ) → rows_left a j ≡ left_behind set (from / word_bits) u j) → from ≤ end → YieldsRows a r t → NextIfAny (member set) from end r
+next_row set from end w v u e f g r a t l h k n =
+    next_of set from end r a t l
+    (λ j. h j ∙ left_from set from u (λ x m. bits_behind w v u (from % word_bits) x m f g ∙ ap (λ (z : ℕ). leb (from % word_bits) x && has_bit z x) e) j) k n
+
+-- ---- how many rows there are
+
+those_size : (n : ℕ) (p : ℕ → Bool) → length (those n p) ≡ set_size n p
+unfolding those sum
+those_size zero p = refl
+those_size (suc n) p = length-append (those n p) (cond (p n) (n ∷ []) []) ∙ ap₂ ◌+◌ (those_size n p) (go (p n))
+  where
+    go : (b : Bool) → length (cond b (n ∷ []) []) ≡ if_set b 1
+    go true = refl
+    go false = refl
+
+pub rows_counted : (n : ℕ) (p : ℕ → Bool) (xs : List ℕ) (r : ℕ) → xs ≡ those n p → r ≡ length xs → r ≡ set_size n p
+rows_counted n p xs r e h = h ∙ ap length e ∙ those_size n p
