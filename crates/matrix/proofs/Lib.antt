@@ -2,5 +2,6 @@
 pub mod Bits
 pub mod Sets
 pub mod Members
+pub mod Loops
 pub mod Walks
 pub mod Without

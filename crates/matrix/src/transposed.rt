@@ -6,6 +6,7 @@ ghost use Rattle.matrix.specs.Sets.{column_limit};
 use crate::{Subproblem, columns, rows};
 
 // A set of rows for each column.
+#[derive(Drop)]
 pub struct ByColumn {
     sets: [rows::Set; columns::LIMIT],
 }

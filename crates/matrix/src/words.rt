@@ -12,7 +12,7 @@ use std::ops::{BitAnd, BitOr, Shl, Shr, Sub};
 pub const BITS: usize = 64;
 
 // A word.
-#[derive(Clone, Copy, PartialEq, Eq)]
+#[derive(Clone, Copy, PartialEq, Eq, Default)]
 #[repr(C)]
 pub struct Word(u64);
 

@@ -8,4 +8,5 @@ pub mod Kept
 pub mod Fronts
 pub mod Lent
 pub mod Loops
+pub mod Closures
 pub mod Examples
