@@ -1,7 +1,7 @@
 -- What the calls share: the first condition that holds, and conditions after others; a width, a table and a list that are not refused; what an answer
 -- tells; and the two ways in which a call that writes a list ends. Assumes nothing.
 use mathlib.Core.Path.{◌≡◌, refl, sym, ap, ap₂, ◌∙◌, subst}
-use mathlib.Core.Bool.{Bool, true, false, cond, not, ◌&&◌, ◌||◌, or-true, true≢false}
+use mathlib.Core.Bool.{Bool, true, false, cond, not, ◌&&◌, ◌||◌, true≢false}
 use mathlib.Core.List.{List, [], ◌∷◌, ◌++◌}
 use Prim.Native.Nat.{ℕ, zero, suc, ◌-◌, ◌^◌, ◌<◌, ◌≤◌}
 use native.Mathlib.Nat.{pow-le-pow_right}
@@ -11,7 +11,7 @@ use lib.ListN.{length, take, drop}
 use lib.Pow.{pow_mono}
 use Rattle.std.specs.Prelude.{Result, Ok, Err}
 use Rattle.std.proofs.lemmas.Bool.Decides.{nat_tests}
-use borrow.Author.Tests.{ltb-false, lt-ltb, le-ltb, eq-eqb, eqb-true, not-false}
+use borrow.Author.Tests.{ltb-false, le-ltb, eq-eqb, eqb-true, not-false}
 use Rattle.cube.specs.Words.{rows_of, essential, essentials_of, serving_prime, serving_primes_of}
 use Rattle.cube.specs.Calls.{widest, bad_width, bad_length, bad_cell, short, unequal_lengths, most_rows, too_many_rows, bad_row, Condition, when, first_of, table_conditions, list_conditions, Answer, refuses, gives, answered, written, refusal_number, answer_of, Listed}
 use Rattle.cube.specs.declared.Refusal.{Refusal}
@@ -110,24 +110,10 @@ refusal_from e = grind arith
 pub same_refusal : (d e : Refusal) → refusal_number d ≡ refusal_number e → d ≡ e
 same_refusal d e h = grind arith
 
--- what is refused by the conditions in front is refused so by all
-pub front_refuses : (xs ys : List Condition) (e : Refusal) → refusal_number e ≡ first_of xs → refusal_number e ≡ first_of (xs ++ ys)
-front_refuses xs ys e h = go (refusal_number e) (refusal_from e) h
-  where
-    go : (k : ℕ) → 0 < k → k ≡ first_of xs → k ≡ first_of (xs ++ ys)
-    go zero l h = absurd (omega arith)
-    go (suc k) l h = sym (conditions_refuse xs ys k (sym h))
-
 -- one more condition after others, with the number suc m
 module _ (xs : List Condition) (n : T (numbered xs)) (b : Bool) (m : ℕ) where
   abbrev and_last : ℕ
   and_last = first_of (xs ++ (when b (suc m) ∷ []))
-
-  pub last_before : (e : Refusal) → refusal_number e ≡ first_of xs → refusal_number e ≡ and_last
-  last_before = front_refuses xs (when b (suc m) ∷ [])
-
-  pub last_holds : first_of xs ≡ 0 → b ≡ true → suc m ≡ and_last
-  last_holds e h = sym (conditions_pass xs (when b (suc m) ∷ []) n e ∙ first_holds b (suc m) [] h)
 
   pub last_passes : first_of xs ≡ 0 → b ≡ false → 0 ≡ and_last
   last_passes e h = sym (conditions_pass xs (when b (suc m) ∷ []) n e ∙ first_passes b (suc m) [] h)
@@ -139,17 +125,8 @@ module _ (xs : List Condition) (n : T (numbered xs)) (b : Bool) (m : ℕ) where
 
 -- two lent arrays, either of which may be too short
 module _ (a b needed : ℕ) where
-  pub first_short : a < needed → (short a needed || short b needed) ≡ true
-  first_short l = ap (λ (x : Bool). x || short b needed) (lt-ltb a needed l)
-
-  pub second_short : b < needed → (short a needed || short b needed) ≡ true
-  second_short l = ap (λ (x : Bool). short a needed || x) (lt-ltb b needed l) ∙ or-true (short a needed)
-
   pub neither_short : needed ≤ a → needed ≤ b → (short a needed || short b needed) ≡ false
   neither_short l m = ap₂ ◌||◌ (le-ltb a needed l) (le-ltb b needed m)
-
-  pub both_long : (short a needed || short b needed) ≡ false → (needed ≤ a) × (needed ≤ b)
-  both_long e = let long = neither (short a needed) (short b needed) e in (ltb-false a needed long.0, ltb-false b needed long.1)
 
 -- ---- a table that is not refused
 

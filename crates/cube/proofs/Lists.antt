@@ -3,11 +3,10 @@
 use mathlib.Core.Path.{◌≡◌, refl, sym, ap, ◌∙◌}
 use mathlib.Core.Bool.{Bool, true, false, not, ◌||◌}
 use mathlib.Core.List.{List, [], ◌∷◌, ◌++◌}
-use Prim.Native.Nat.{ℕ, zero, suc, ◌<◌, ◌≤◌}
+use Prim.Native.Nat.{ℕ, zero, suc, ◌<◌}
 use native.Mathlib.Nat.{not-suc-le-zero, le_of_suc-le-suc}
 use native.Mathlib.Omega.{arith}
 use lib.ListN.{length, take, get_or}
-use lib.Seq.{length-take-le}
 use Rattle.numbers.specs.Below.{some}
 use Rattle.cube.specs.Words.{Row, Cover, row_matches, formed, each_row, cover_matches, rows_of}
 use Rattle.cube.specs.Calls.{bad_row}
@@ -73,7 +72,3 @@ rows_more i (v ∷ vs) [] l m = absurd (not-suc-le-zero m)
 rows_more zero (v ∷ vs) (w ∷ ws) l m = refl
 rows_more (suc i) (v ∷ vs) (w ∷ ws) l m =
     ap (λ (rs : Cover). record { value = v; care = w } ∷ rs) (rows_more i vs ws (le_of_suc-le-suc l) (le_of_suc-le-suc m))
-
-pub rows_first : (i : ℕ) (vs ws : List ℕ) → i ≤ length vs → i ≤ length ws → length (rows_of (take i vs) (take i ws)) ≡ i
-rows_first i vs ws l m =
-    rows_length (take i vs) (take i ws) (length-take-le i vs l ∙ sym (length-take-le i ws m)) ∙ length-take-le i vs l
