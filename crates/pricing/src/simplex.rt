@@ -111,14 +111,6 @@ impl Variable {
         }
     }
 
-    // The entry of a row with some columns at the place of this price.
-    fn entry(self, set: columns::Set) -> f32 {
-        match self.meaning {
-            Meaning::Price(c) if !set.contains(c) => 0.0,
-            _ => 1.0,
-        }
-    }
-
     // The gain of this price before the first pivot.
     fn first_gain(self, need: f32) -> f32 {
         match self.meaning {
@@ -176,37 +168,48 @@ fn right_side(matrix: Matrix, i: usize) -> f32
     nearest_u32_to_f32(matrix.weight(i) as u32) - f32::from(part) * SPREAD
 }
 
-// Loads a row of the tableau: the entries of some columns, and the right side.
-fn load_row(line: &mut Line, places: &[Variable], set: columns::Set, side: f32)
-    requires { length places.now ≤ most_places }
+// The place of the price of the undecided column c: behind those of the undecided columns below it.
+fn place_of(undecided: columns::Set, c: usize) -> usize
+    requires { c < column_limit }
+    ensures { result < most_places }
 {
-    for (cell, variable) in line.iter_mut().zip(places) {
-        *cell = variable.entry(set);
+    (undecided - (columns::ALL << c)).len()
+}
+
+// Loads a row of the tableau for the row i of the matrix: an entry of 1 for each of its undecided columns, and the right side behind the last place. The price
+// of a row has the entry 1 too, behind the columns' prices; where it has no place, the right side stands there.
+fn load_row(line: &mut Line, problem: &Subproblem, places: usize, i: usize)
+    requires { (i < row_count problem.now.matrix.words.now) × (places ≤ most_places) }
+{
+    *line = [0.0; PLACES + 1];
+    for c in problem.matrix.columns_of(i) & problem.undecided {
+        line[place_of(problem.undecided, c)] = 1.0;
     }
-    line[places.len()] = side;
+    line[problem.undecided.len()] = 1.0;
+    line[places] = right_side(problem.matrix, i);
 }
 
 // Loads the live rows, each with its slack as its basic variable, unless there is none or there are too many.
 fn load_rows(
     problem: &Subproblem,
-    places: &ArrayVec<Variable, PLACES>,
+    places: usize,
     cells: &mut Cells,
-) -> Option<ArrayVec<Variable, ROWS>> {
+) -> Option<ArrayVec<Variable, ROWS>>
+    requires { places ≤ most_places }
+{
     let mut rows = ArrayVec::new();
     for i in problem.live.iter(problem.matrix.rows()) {
         if rows.is_full() {
             return None;
         }
-        let set = problem.matrix.columns_of(i);
-        let side = right_side(problem.matrix, i);
-        load_row(&mut cells[rows.len()], places, set, side);
+        load_row(&mut cells[rows.len()], problem, places, i);
         rows.push(Variable::slack(i));
     }
     if rows.is_empty() { None } else { Some(rows) }
 }
 
 // How many rows have an entry at the place j.
-// Counted by hand: `filter` and `count` are slower.
+// A `for`: `filter` with `count`, and `sum`, are slower.
 fn entries(lines: &[Line], j: usize) -> u16
     requires { (length lines.now ≤ most_rows) × (j < most_places) }
     ensures { result ≤ most_rows }
@@ -475,7 +478,7 @@ pub fn prices(
     ensures { result.fee < weight_limit }
 {
     let places = places_of(problem.undecided, need);
-    let Some(rows) = load_rows(problem, &places, cells) else {
+    let Some(rows) = load_rows(problem, places.len(), cells) else {
         return Priced {
             prices: [0; columns::LIMIT],
             fee: 0,
