@@ -31,7 +31,10 @@ pub struct Solution {
 fn limit_with(cover: &Option<Cover>, limit: u64) -> u64
     ensures { result ≡ weight_or limit cover.now }
 {
-    cover.as_ref().map_or(limit, |found| found.weight)
+    match cover {
+        Some(found) => found.weight,
+        None => limit,
+    }
 }
 
 // The row r, of weight w, with the answer for what it leaves.
