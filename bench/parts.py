@@ -51,7 +51,7 @@ ZERO = """    let low = tighten_by(dual::from_zero, matrix, live, undecided, lim
         return low;
     }
 """
-IMPROVE = "    ascent.improve(problem);\n"
+IMPROVE = "    ascent.improve();\n"
 NEXT = """let next = branching::branching_row(words, weights, &rest, undecided);
     if next == matrix::row_count(words) {
         return incumbent;
