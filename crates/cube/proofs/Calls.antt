@@ -9,11 +9,12 @@ use native.Mathlib.Omega.{arith}
 use lib.Dec.{T, eqb, ltb, lit<}
 use lib.ListN.{length, take, drop}
 use lib.Pow.{pow_mono}
+use Rattle.std.specs.Prelude.{Result, Ok, Err}
+use Rattle.std.proofs.lemmas.Bool.Decides.{nat_tests}
 use borrow.Author.Tests.{ltb-false, lt-ltb, le-ltb, eq-eqb, eqb-true, not-false}
 use Rattle.cube.specs.Words.{rows_of, essential, essentials_of, serving_prime, serving_primes_of}
-use Rattle.cube.specs.Calls.{widest, bad_width, bad_length, bad_cell, short, unequal_lengths, most_rows, too_many_rows, bad_row, Condition, when, first_of, table_conditions, list_conditions, Answer, refuses, gives, answered, written, count_answer, Listed}
-use Rattle.cube.specs.declared.Counted.{Counted}
-use Rattle.cube.specs.declared.Counted.TheVariants.{Count, Refused}
+use Rattle.cube.specs.Calls.{widest, bad_width, bad_length, bad_cell, short, unequal_lengths, most_rows, too_many_rows, bad_row, Condition, when, first_of, table_conditions, list_conditions, Answer, refuses, gives, answered, written, refusal_number, answer_of, Listed}
+use Rattle.cube.specs.declared.Refusal.{Refusal}
 use Rattle.numbers.specs.Lent.{Puts}
 use Rattle.numbers.proofs.Bools.{and_l, and_r, not_e, eqb_of}
 use Rattle.numbers.proofs.Below.{those-length}
@@ -99,17 +100,30 @@ none_in_front xs ys e = go (first_of xs) refl
     go zero a = a
     go (suc k) a = absurd (let z : suc k ≡ 0 = sym (conditions_refuse xs ys k a) ∙ e in omega arith)
 
--- as code tells it: what those in front refuse with, if it is not 0, is what all refuse with
-pub front_refuses : (xs ys : List Condition) (k : ℕ) → k ≡ first_of xs → (k ≡ 0 → ⊥) → k ≡ first_of (xs ++ ys)
-front_refuses xs ys zero e h = absurd (h refl)
-front_refuses xs ys (suc k) e h = sym (conditions_refuse xs ys k (sym e))
+-- ---- the numbers of refusals
+
+-- they are from 1 on
+pub refusal_from : (e : Refusal) → 0 < refusal_number e
+refusal_from e = grind arith
+
+-- and each is the number of one refusal
+pub same_refusal : (d e : Refusal) → refusal_number d ≡ refusal_number e → d ≡ e
+same_refusal d e h = grind arith
+
+-- what is refused by the conditions in front is refused so by all
+pub front_refuses : (xs ys : List Condition) (e : Refusal) → refusal_number e ≡ first_of xs → refusal_number e ≡ first_of (xs ++ ys)
+front_refuses xs ys e h = go (refusal_number e) (refusal_from e) h
+  where
+    go : (k : ℕ) → 0 < k → k ≡ first_of xs → k ≡ first_of (xs ++ ys)
+    go zero l h = absurd (omega arith)
+    go (suc k) l h = sym (conditions_refuse xs ys k (sym h))
 
 -- one more condition after others, with the number suc m
 module _ (xs : List Condition) (n : T (numbered xs)) (b : Bool) (m : ℕ) where
   abbrev and_last : ℕ
   and_last = first_of (xs ++ (when b (suc m) ∷ []))
 
-  pub last_before : (k : ℕ) → k ≡ first_of xs → (k ≡ 0 → ⊥) → k ≡ and_last
+  pub last_before : (e : Refusal) → refusal_number e ≡ first_of xs → refusal_number e ≡ and_last
   last_before = front_refuses xs (when b (suc m) ∷ [])
 
   pub last_holds : first_of xs ≡ 0 → b ≡ true → suc m ≡ and_last
@@ -210,25 +224,39 @@ pub answered_refuses : {A : Type 0} (j k : ℕ) (b : A) → refuses j ≡ answer
 answered_refuses j zero b e = absurd (refuses_gives j b e)
 answered_refuses j (suc k) b e = (sym (same_number j (suc k) e), λ z. omega arith)
 
+-- a call that gives a value, and one that refuses
+pub gives_answered : {A : Type 0} {k : ℕ} (a : A) → 0 ≡ k → answer_of (Ok a) ≡ answered k a
+gives_answered a e = ap (λ (i : ℕ). answered i a) e
+
+pub refuses_answered : {A : Type 0} {k : ℕ} (e : Refusal) (a : A) → refusal_number e ≡ k → answer_of {A = A} (Err e) ≡ answered k a
+refuses_answered e a h = go (refusal_number e) (refusal_from e) ∙ ap (λ (i : ℕ). answered i a) h
+  where
+    go : (k : ℕ) → 0 < k → refuses k ≡ answered k a
+    go zero l = absurd (omega arith)
+    go (suc k) l = refl
+
+-- what tells of refusals: their numbers are from 1 on, and the tests of conditions; `grind` takes both
+pub ruleset refusals = (nat_tests, refusal_from)
+
 -- ---- a call that writes a list
 
 -- two calls that keep one promise leave and answer the same
-same_answer : (r s : Counted) → count_answer r ≡ count_answer s → r ≡ s
-same_answer (Count j) (Count k) e = ap Count (same_value j k e)
-same_answer (Refused j) (Refused k) e = ap Refused (same_number j k e)
-same_answer (Count j) (Refused k) e = absurd (refuses_gives k j (sym e))
-same_answer (Refused j) (Count k) e = absurd (refuses_gives j k e)
+same_answer : (r s : Result ℕ Refusal) → answer_of r ≡ answer_of s → r ≡ s
+same_answer (Ok j) (Ok k) e = ap Ok (same_value j k e)
+same_answer (Err d) (Err e) h = ap Err (same_refusal d e (same_number (refusal_number d) (refusal_number e) h))
+same_answer (Ok j) (Err e) h = absurd (refuses_gives (refusal_number e) j (sym h))
+same_answer (Err e) (Ok k) h = absurd (refuses_gives (refusal_number e) k h)
 
-pub listed_alike : {A : Type 0} {refusal : ℕ} {list old new other : List A} (r s : Counted) → Listed refusal list old new r → Listed refusal list old other s
+pub listed_alike : {A : Type 0} {refusal : ℕ} {list old new other : List A} (r s : Result ℕ Refusal) → Listed refusal list old new r → Listed refusal list old other s
     → (new ≡ other) × (r ≡ s)
 listed_alike r s p q = (p.places ∙ sym q.places, same_answer r s (p.answer ∙ sym q.answer))
 
--- where it answers a refusal's number, that is what it refuses with
-pub listed_number : {A : Type 0} {refusal : ℕ} {list old new : List A} (k : ℕ) → Listed refusal list old new (Refused k) → refusal ≡ k
-listed_number {refusal = refusal} {list = list} k p = (answered_refuses k refusal (length list) p.answer).0
+-- where it answers a refusal, its number is what it refuses with
+pub listed_number : {A : Type 0} {refusal : ℕ} {list old new : List A} (e : Refusal) → Listed refusal list old new (Err e) → refusal ≡ refusal_number e
+listed_number {refusal = refusal} {list = list} e p = (answered_refuses (refusal_number e) refusal (length list) p.answer).0
 
 -- where it answers a count, nothing refuses, and the list is in the first places, as many as the count
-module _ {A : Type 0} {refusal : ℕ} {list old new : List A} {k : ℕ} (p : Listed refusal list old new (Count k)) where
+module _ {A : Type 0} {refusal : ℕ} {list old new : List A} {k : ℕ} (p : Listed refusal list old new (Ok k)) where
   pub none_refuses : refusal ≡ 0
   none_refuses = (answered_gives refusal k (length list) p.answer).0
 
@@ -245,21 +273,25 @@ module _ {A : Type 0} {refusal : ℕ} {list old new : List A} {k : ℕ} (p : Lis
   listed_behind = front_behind list old listed_count stands
 
 -- where nothing refuses, it answers a count
-pub listed_counts : {A : Type 0} {refusal : ℕ} {list old new : List A} (r : Counted) → refusal ≡ 0 → Listed refusal list old new r → (k : ℕ) × (r ≡ Count k)
-listed_counts (Count k) e p = (k, refl)
-listed_counts {refusal = refusal} {list} (Refused k) e p = absurd ((answered_refuses k refusal (length list) p.answer).1 e)
+pub listed_counts : {A : Type 0} {refusal : ℕ} {list old new : List A} (r : Result ℕ Refusal) → refusal ≡ 0 → Listed refusal list old new r → (k : ℕ) × (r ≡ Ok k)
+listed_counts (Ok k) e p = (k, refl)
+listed_counts {refusal = refusal} {list} (Err d) e p = absurd ((answered_refuses (refusal_number d) refusal (length list) p.answer).1 e)
 
 -- it refuses, and leaves the places as they were
-pub listed_refused : {refusal : ℕ} {list old : List ℕ} (k : ℕ) → refusal ≡ suc k → Listed refusal list old old (Refused (suc k))
-listed_refused {list = list} {old = old} k e = record {
-  answer = ap (λ (i : ℕ). answered i (length list)) (sym e);
-  places = ap (λ (i : ℕ). written i list old) (sym e);
+pub listed_refused : {A : Type 0} {refusal : ℕ} {list old : List A} (e : Refusal) → refusal_number e ≡ refusal → Listed refusal list old old (Err e)
+listed_refused {list = list} {old = old} e h = record {
+  answer = refuses_answered e (length list) h;
+  places = go (refusal_number e) (refusal_from e) ∙ ap (λ (i : ℕ). written i list old) h;
 }
+  where
+    go : (k : ℕ) → 0 < k → old ≡ written k list old
+    go zero l = absurd (omega arith)
+    go (suc k) l = refl
 
 -- it writes the list from the first place
-pub listed_done : {refusal : ℕ} {list old new : List ℕ} {count : ℕ} → refusal ≡ 0 → Puts list old 0 new count → length list ≤ length old
-    → Listed refusal list old new (Count count)
+pub listed_done : {refusal : ℕ} {list old new : List ℕ} {count : ℕ} → 0 ≡ refusal → Puts list old 0 new count → length list ≤ length old
+    → Listed refusal list old new (Ok count)
 listed_done {list = list} {old = old} e p l = record {
-  answer = ap (answered 0) (front_count p) ∙ ap (λ (i : ℕ). answered i (length list)) (sym e);
-  places = front_places p l ∙ ap (λ (i : ℕ). written i list old) (sym e);
+  answer = ap gives (front_count p) ∙ gives_answered (length list) e;
+  places = front_places p l ∙ ap (λ (i : ℕ). written i list old) e;
 }
