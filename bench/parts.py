@@ -21,7 +21,7 @@ TABLES = "tests/tables/hard6.txt"
 OUT = "target/bench/parts"
 TIGHTEN = "bound/src/lib.rt"
 CERTIFICATE = "bound/src/certificate.rt"
-DUAL = "bound/src/dual.rt"
+DUAL = "pricing/src/dual.rt"
 SEARCH = "search/src/lib.rt"
 BRANCHING = "search/src/branching.rt"
 
@@ -43,41 +43,36 @@ fn main(rt: HostRuntime) {
     let _ = println!(rt; "{nodes} {most} {weights}");
 }
 """
-SOLVING_DEPS = "parts: numbers covering matrix reduction bound search\n"
+SOLVING_DEPS = "parts: numbers covering matrix reduction pricing bound search\n"
 
-SHARE = """    let rest = first.live;
-    let share = dual::from_shares(words, weights, &rest, undecided);
-    certificate::certified(words, weights, rest, undecided, limit, &share)
-"""
-ZERO = """    let ascent = dual::from_zero(words, weights, &live, undecided);
-    let first = certificate::certified(words, weights, live, undecided, limit, &ascent);
-    if limit <= first.low {
-        return first;
+SHARE = "    tighten_by(dual::from_shares, matrix, live, undecided, limit)\n"
+ZERO = """    let low = tighten_by(dual::from_zero, matrix, live, undecided, limit);
+    if limit <= low {
+        return low;
     }
-    let rest = first.live;
 """
-IMPROVE = "    improve(words, &by_column, &mut prices, &mut slack, undecided);\n"
+IMPROVE = "    ascent.improve(problem);\n"
 NEXT = """let next = branching::branching_row(words, weights, &rest, undecided);
     if next == matrix::row_count(words) {
         return incumbent;
     }
     let other = choose(words, weights, rest, undecided, incumbent.weight, next);"""
-NO_SHARE = [(TIGHTEN, SHARE, "    first\n")]
+NO_SHARE = [(TIGHTEN, SHARE, "    low\n")]
 NO_IMPROVEMENT = [(DUAL, IMPROVE, "")]
-NO_ROUNDING = [(CERTIFICATE, "rounded(words, weights, &live, total);", "total;")]
-NO_FIXING = [(CERTIFICATE, "fix_rows(words, weights, live, undecided, limit, prices, total);", "live;")]
+NO_ROUNDING = [(CERTIFICATE, "rounded(&self.problem, self.total)", "self.total")]
+NO_FIXING = [(CERTIFICATE, "        *live = solution.kept();\n", "")]
 
 VARIANTS = {
     "all": [],
     "no-share": NO_SHARE,
-    "no-zero": [(TIGHTEN, ZERO, "    let rest = live;\n")],
+    "no-zero": [(TIGHTEN, ZERO, "")],
     "no-improvement": NO_IMPROVEMENT,
     "two-improvements": [(DUAL, IMPROVE, IMPROVE + IMPROVE)],
     "no-rounding": NO_ROUNDING,
     "no-fixing": NO_FIXING,
     "no-rounding-no-fixing": NO_ROUNDING + NO_FIXING,
     "zero-alone": NO_SHARE + NO_IMPROVEMENT + NO_ROUNDING + NO_FIXING,
-    "no-bound": [(TIGHTEN, "    let ascent", "    if 0 < limit {\n        return certificate::Bounded { low: 0, live };\n    }\n    let ascent")],
+    "no-bound": [(TIGHTEN, "    let low =", "    if 0 < limit {\n        return 0;\n    }\n    let low =")],
     "second-branch-not-reduced": [(SEARCH, "let other = reduce(words, weights, rest, undecided, incumbent.weight);", NEXT)],
     "no-greedy": [(SEARCH, "all, columns, first.weight);", "all, columns, 4398046511104);")],
     "fewest-rows": [(BRANCHING, "denser(brings, counts[c], brought, counts[best])", "counts[c] < counts[best]")],
