@@ -1,8 +1,8 @@
 // Dual ascent: prices for the columns, as high as the rows' weights allow. A heuristic: nothing is promised about the prices, since the certificate is
 // checked. A row's slack is its capacity, which is its weight less the fee of a row, less the prices of its undecided columns. Prices, capacities and
 // slacks are counted in parts of a unit of weight, and added and subtracted modulo 2 ^ 32.
-ghost use Rattle.std.specs.Prelude.{◌≡◌, ◌-◌, ◌*◌, ◌%◌, ◌<◌, ◌≤◌};
-ghost use Rattle.matrix.specs.Sets.{column_limit, row_limit};
+ghost use Rattle.std.specs.Prelude.{◌≡◌, ◌-◌, ◌*◌, ◌%◌, ◌<◌};
+ghost use Rattle.matrix.specs.Sets.{column_limit};
 ghost use Rattle.matrix.specs.Matrix.{row_count, weight_of, weight_limit};
 ghost use Rattle.pricing.specs.Prices.{level_count};
 
@@ -100,20 +100,22 @@ fn cap(prices: &mut Prices, set: columns::Set, share: u32) {
     }
 }
 
-// Prices on their way up, and each row's slack.
+// An ascent of a problem: the prices on their way up, and each row's slack.
 #[derive(Drop)]
-struct Ascent {
+struct Ascent<'a> {
+    problem: &'a Problem<'a>,
     prices: Prices,
     slacks: Slacks,
 }
 
-impl Ascent {
-    // The least slack of the rows of a set before `end`.
-    fn least_slack(&self, set: &rows::Set, end: usize) -> u32
-        requires { end ≤ row_limit }
+impl<'a> Ascent<'a> {
+    // The least slack of the rows of the column c.
+    fn least_slack(&self, c: usize) -> u32
+        requires { c < column_limit }
     {
+        let end = self.problem.covering.matrix.rows();
         let mut least = u32::MAX;
-        for i in set.iter(end) {
+        for i in self.problem.by_column.at(c).iter(end) {
             least = least.min(self.slacks[i]);
             if least == 0 {
                 return 0;
@@ -123,7 +125,7 @@ impl Ascent {
     }
 
     // Sets a new price for the column c, and changes the slack of its rows with it.
-    fn set_price(&mut self, problem: &Problem, c: usize, price: u32)
+    fn set_price(&mut self, c: usize, price: u32)
         requires { c < column_limit }
     {
         let amount = self.prices[c].wrapping_sub(price);
@@ -131,78 +133,82 @@ impl Ascent {
             return;
         }
         self.prices[c] = price;
-        for i in problem.by_column.at(c).iter(problem.covering.matrix.rows()) {
+        let end = self.problem.covering.matrix.rows();
+        for i in self.problem.by_column.at(c).iter(end) {
             self.slacks[i] = self.slacks[i].wrapping_add(amount);
         }
     }
 
     // Raises the price of the column c by the least slack of its rows.
-    fn raise(&mut self, problem: &Problem, c: usize)
+    fn raise(&mut self, c: usize)
         requires { c < column_limit }
     {
-        let amount = self.least_slack(problem.by_column.at(c), problem.covering.matrix.rows());
-        let price = self.prices[c].wrapping_add(amount);
-        self.set_price(problem, c, price);
+        let price = self.prices[c].wrapping_add(self.least_slack(c));
+        self.set_price(c, price);
     }
 
     // Raises the prices of the columns of a set.
-    fn raise_all(&mut self, problem: &Problem, set: columns::Set) {
+    fn raise_all(&mut self, set: columns::Set) {
         for c in set {
-            self.raise(problem, c);
+            self.raise(c);
         }
     }
 
     // Puts the prices of the columns of a set back to what they were.
-    fn restore(&mut self, problem: &Problem, set: columns::Set, saved: &Prices) {
+    fn restore(&mut self, set: columns::Set, saved: &Prices) {
         for c in set {
-            self.set_price(problem, c, saved[c]);
+            self.set_price(c, saved[c]);
         }
     }
 
     // Raises the prices of the undecided columns, those with few rows first.
-    fn ascend(&mut self, problem: &Problem) {
-        for level in problem.levels() {
-            self.raise_all(problem, level);
+    fn ascend(&mut self) {
+        for level in self.problem.levels() {
+            self.raise_all(level);
         }
     }
 
     // Releases the price of the column c and raises those of its neighbours, unless the prices are then worth less together than they were. Returns what
     // they are worth now.
-    fn retry(&mut self, problem: &Problem, worth: u64, c: usize) -> u64
+    fn retry(&mut self, worth: u64, c: usize) -> u64
         requires { c < column_limit }
     {
         if self.prices[c] == 0 {
             return worth;
         }
         let saved = self.prices;
-        let near = problem.near(c);
-        self.set_price(problem, c, 0);
-        self.raise_all(problem, near - columns::Set::only(c));
-        self.raise(problem, c);
-        let changed = crate::worth(&self.prices, problem.covering.undecided);
+        let near = self.problem.near(c);
+        self.set_price(c, 0);
+        self.raise_all(near - columns::Set::only(c));
+        self.raise(c);
+        let changed = crate::worth(&self.prices, self.problem.covering.undecided);
         if worth <= changed {
             return changed;
         }
-        self.restore(problem, near, &saved);
+        self.restore(near, &saved);
         worth
     }
 
     // Retries each undecided column.
-    fn improve(&mut self, problem: &Problem) {
-        let undecided = problem.covering.undecided;
+    fn improve(&mut self) {
+        let undecided = self.problem.covering.undecided;
         let mut worth = crate::worth(&self.prices, undecided);
         for c in undecided {
-            worth = self.retry(problem, worth, c);
+            worth = self.retry(worth, c);
         }
     }
 }
 
 // Prices by an ascent from those given, and a pass that improves them.
-fn ascended(problem: &Problem, prices: Prices) -> Prices {
+fn ascended<'a>(problem: &'a Problem<'a>, prices: Prices) -> Prices {
     let slacks = problem.slacks(&prices);
-    let mut ascent = Ascent { prices, slacks };
-    ascent.ascend(problem);
-    ascent.improve(problem);
+    let mut ascent = Ascent {
+        problem,
+        prices,
+        slacks,
+    };
+    ascent.ascend();
+    ascent.improve();
     ascent.prices
 }
 

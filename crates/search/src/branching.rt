@@ -93,7 +93,7 @@ fn widest_row(problem: &Subproblem, c: usize) -> Option<usize>
 // The row to branch on, or `None` where no live row covers some undecided column.
 pub fn branching_row(problem: &Subproblem) -> Option<usize>
     requires { (c : ℕ) × In problem.now.undecided c }
-    ensures { Branch problem.now.matrix.words.now problem.now.live.now problem.now.undecided result }
+    ensures { let p = problem.now in Branch p.matrix.words.now p.live.now p.undecided result }
 {
     widest_row(problem, densest_column(problem))
 }

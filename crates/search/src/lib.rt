@@ -115,7 +115,7 @@ fn branch_point(
 #[tactic(auto, using(matrix::proofs::Without::size_fewer, crate::proofs::Branches::found_spent, crate::proofs::Branches::found_decided, crate::proofs::Branches::found_chosen))]
 fn reduce(problem: &Subproblem, limit: u64) -> Solution
     requires { limit < cost_limit }
-    ensures { Found problem.now.matrix.words.now problem.now.matrix.weights.now problem.now.live.now problem.now.undecided limit result.cover }
+    ensures { let p = problem.now in Found p.matrix.words.now p.matrix.weights.now p.live.now p.undecided limit result.cover }
 {
     let mut rest = reduction::cyclic_core(problem);
     if limit <= rest.cost {
@@ -148,7 +148,7 @@ fn reduce(problem: &Subproblem, limit: u64) -> Solution
 #[tactic(auto, using(matrix::proofs::Without::left_size, crate::proofs::Branches::lower_limit, crate::proofs::Branches::found_branches))]
 fn choose(problem: &Subproblem, limit: u64, r: usize) -> Solution
     requires { (limit < cost_limit) × (r < row_count problem.now.matrix.words.now) × Member problem.now.live.now r }
-    ensures { Found problem.now.matrix.words.now problem.now.matrix.weights.now problem.now.live.now problem.now.undecided limit result.cover }
+    ensures { let p = problem.now in Found p.matrix.words.now p.matrix.weights.now p.live.now p.undecided limit result.cover }
 {
     let mut live = *problem.live;
     live.remove(r);
