@@ -1,10 +1,9 @@
 // Primes, Essentials and Plan on one table. A term is printed as the papers have it, x1 first, `-` for untested.
-ghost use Rattle.std.specs.Prelude.{ℕ, ◌≡◌, ◌≤◌, length};
+ghost use Rattle.std.specs.Prelude.{◌≤◌, IfOk, length};
 ghost use Rattle.cube.specs.Calls.{widest};
 
 use arrayvec::ArrayVec;
-use cube::Counted;
-use plan::Planned;
+use cube::Refusal;
 use spelling::{MOST_CODE_PAIRS, MOST_CODES, MOST_CUBES};
 use std::{fmt, io};
 
@@ -43,14 +42,14 @@ fn report(
     rt: &impl Print,
     title: &str,
     width: usize,
-    answer: Counted,
+    answer: Result<usize, Refusal>,
     places: &[u16],
 ) -> io::Result<()>
-    requires { (k : ℕ) → answer ≡ Counted.Count k → (width ≤ widest) × (k ≤ length places.now) }
+    requires { IfOk answer (λ count. (width ≤ widest) × (count ≤ length places.now)) }
 {
     print!(rt; "  {title} ")?;
     match answer {
-        Counted::Count(count) => {
+        Ok(count) => {
             print!(rt; "{count}:")?;
             for cube in &places[..count] {
                 let term = Term {
@@ -61,7 +60,7 @@ fn report(
             }
             println!(rt; "")
         }
-        Counted::Refused(k) => println!(rt; "refused {k}"),
+        Err(refusal) => println!(rt; "refused {}", refusal.number()),
     }
 }
 
@@ -71,8 +70,8 @@ fn report_plan(rt: &impl Print, width: usize, table: &[u8]) -> io::Result<()> {
     let mut cares = [0u8; MOST_CODE_PAIRS];
     print!(rt; "  plan ")?;
     match plan::plan(width, table, &mut values, &mut cares) {
-        Planned::Rows(rows, bits) => println!(rt; "rows {rows} bits {bits}"),
-        Planned::Refused(k) => println!(rt; "refused {k}"),
+        Ok(totals) => println!(rt; "rows {} bits {}", totals.rows, totals.bits),
+        Err(refusal) => println!(rt; "refused {}", refusal.number()),
     }
 }
 

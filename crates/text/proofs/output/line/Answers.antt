@@ -1,11 +1,11 @@
--- `text::output::row` meets its contract: at each turn the characters of the variables before x(i + 1) are written. Assumes nothing.
+-- `text::output::line` meets its contract: at each turn the characters of the variables before x(i + 1) are written. Assumes nothing.
 use Rattle.std.proofs.Common.{rules, ℕ, ◌+◌, ◌≡◌, List, [], ◌∷◌, ◌++◌, length, arith, ap, sym, ◌∙◌, append-nil, append_assoc, length-append, add-one, lit<}
 use Rattle.std.proofs.lemmas.Str.{encode_ascii}
 use Rattle.numbers.specs.Below.{tabulate}
 use Rattle.numbers.proofs.Below.{tabulate_more, tabulate-length}
 use Rattle.text.specs.Output.{character_of_variable}
 use Rattle.text.specs.Characters.{line_feed}
-use Rattle.text.proofs.output.row.Goals as goal
+use Rattle.text.proofs.output.line.Goals as goal
 
 module _ (f : ℕ → ℕ) (old : List ℕ) where
   none : old ≡ old ++ tabulate 0 1 f
@@ -37,7 +37,7 @@ push-requires-2 g c = (search rules, omega (arith, ap length (encode_ascii line_
 
 pub returns : goal.returns
 returns g c =
-    let f : ℕ → ℕ = character_of_variable c.args.n (record { value = c.args.value; care = c.args.care }) in
+    let f : ℕ → ℕ = character_of_variable c.args.n c.args.row in
     let all : c.loop-i.i ≡ c.args.n = omega arith in
     c.push-2.ensures.ascii (lit< tt) ∙ ap (λ (l : List ℕ). l ++ line_feed ∷ []) (c.loop-i.invariant ∙ ap (λ (i : ℕ). c.args.out.now.bytes ++ tabulate i 1 f) all)
     ∙ append_assoc c.args.out.now.bytes (tabulate c.args.n 1 f) (line_feed ∷ [])
