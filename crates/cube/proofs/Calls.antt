@@ -13,7 +13,7 @@ use Rattle.std.specs.Prelude.{Result, Ok, Err}
 use Rattle.std.proofs.lemmas.Bool.Decides.{nat_tests}
 use borrow.Author.Tests.{le-ltb, eq-eqb}
 use Rattle.cube.specs.Words.{rows_of, essential, essentials_of, serving_prime, serving_primes_of}
-use Rattle.cube.specs.Calls.{widest, bad_width, bad_length, bad_cell, short, most_rows, bad_row, Condition, when, first_of, table_conditions, list_conditions, Answer, refuses, gives, answered, written, refusal_number, answer_of, Listed}
+use Rattle.cube.specs.Calls.{widest, bad_width, bad_length, bad_cell, short, unequal_lengths, most_rows, bad_row, Condition, when, first_of, table_conditions, list_conditions, Answer, refuses, gives, answered, written, refusal_number, answer_of, Listed}
 use Rattle.cube.specs.declared.Refusal.{Refusal}
 use Rattle.numbers.specs.Lent.{Puts}
 use Rattle.numbers.proofs.Bools.{and_l, and_r, not_e, eqb_of}
@@ -110,10 +110,21 @@ same_refusal d e h = grind arith
 -- what tells of refusals, for `grind`: their numbers are from 1 on, and what the tests of conditions say
 pub ruleset refusals = (nat_tests, refusal_from)
 
+-- as code tells it: what those in front refuse with, if it is not 0, is what all refuse with
+pub front_refuses : (xs ys : List Condition) (k : ℕ) → k ≡ first_of xs → (k ≡ 0 → ⊥) → k ≡ first_of (xs ++ ys)
+front_refuses xs ys zero e h = absurd (h refl)
+front_refuses xs ys (suc k) e h = sym (conditions_refuse xs ys k (sym e))
+
 -- one more condition after others, with the number suc m
 module _ (xs : List Condition) (n : T (numbered xs)) (b : Bool) (m : ℕ) where
   abbrev and_last : ℕ
   and_last = first_of (xs ++ (when b (suc m) ∷ []))
+
+  pub last_before : (k : ℕ) → k ≡ first_of xs → (k ≡ 0 → ⊥) → k ≡ and_last
+  last_before = front_refuses xs (when b (suc m) ∷ [])
+
+  pub last_holds : first_of xs ≡ 0 → b ≡ true → suc m ≡ and_last
+  last_holds e h = sym (conditions_pass xs (when b (suc m) ∷ []) n e ∙ first_holds b (suc m) [] h)
 
   pub last_passes : first_of xs ≡ 0 → b ≡ false → 0 ≡ and_last
   last_passes e h = sym (conditions_pass xs (when b (suc m) ∷ []) n e ∙ first_passes b (suc m) [] h)
@@ -145,6 +156,9 @@ module _ (n : ℕ) (t : List ℕ) where
       ∙ first_passes (bad_length n t) 2 (when (bad_cell t) 3 ∷ []) (ap not (eq-eqb (length t) (2 ^ n) e))
 
 -- ---- a list that is not refused
+
+pub equal_lengths : (vs ws : List ℕ) → unequal_lengths vs ws ≡ false → length vs ≡ length ws
+equal_lengths vs ws e = grind (arith, refusals)
 
 pub record AcceptedList (n : ℕ) (vs ws : List ℕ) : Type 0 where
   pub equal : length vs ≡ length ws
