@@ -42,7 +42,7 @@ fn row_columns(table: Table, row: Row) -> columns::Set
     let mut word = columns::NONE;
     for (code, cell) in table.cells.iter().enumerate() {
         if is_column(*cell, code, row) {
-            word = columns::with_next(word, code);
+            word = word.with_next(code);
         }
     }
     word

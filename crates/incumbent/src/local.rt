@@ -98,6 +98,7 @@ impl Workspace {
 
     // The scores of the rows of a column once it is covered n + 1 times in place of n, because the row i entered. With its price negated: once it is covered
     // n times in place of n + 1, because the row i left.
+    #[tactic(auto, using(numbers::proofs::Closures::asked))]
     fn rescore(&mut self, set: &rows::Set, end: usize, i: usize, n: u32, price: f32)
         requires { end ≤ row_limit }
     {

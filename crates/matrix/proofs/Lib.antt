@@ -3,5 +3,4 @@ pub mod Bits
 pub mod Sets
 pub mod Members
 pub mod Loops
-pub mod Walks
 pub mod Without

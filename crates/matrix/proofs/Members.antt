@@ -1,12 +1,12 @@
--- Sets of rows as words: what a word put in changes, two sets joined word by word, and the first row of a set. Assumes nothing.
+-- Sets of rows as words: what a word put in changes, two sets joined word by word, and what is left of the rows while they are gone through. Assumes nothing.
 use mathlib.Core.Path.{◌≡◌, refl, sym, ap, ap₂, ◌∙◌}
 use mathlib.Core.List.{List, [], ◌∷◌}
-use mathlib.Core.Bool.{Bool, true, false, not, ◌&&◌, ◌||◌}
+use mathlib.Core.Bool.{Bool, true, false, not, ◌&&◌}
 use Prim.Native.Nat.{ℕ, suc, ◌+◌, ◌-◌, ◌*◌, ◌/◌, ◌%◌, ◌≤◌, ◌<◌}
 use native.Mathlib.Decide.{ℕ_discrete, dec_lt}
 use native.Mathlib.Omega.{arith}
 use lib.Dec.{eqb, ltb, leb}
-use lib.ListN.{length, get_or, drop, set, replicate, length-set, length-replicate, get_or-replicate, get_or-eq_default}
+use lib.ListN.{length, get_or, drop, set, replicate, length-replicate, get_or-replicate, get_or-eq_default}
 use lib.Seq.{get_or-set_same, get_or-set_other}
 use Rattle.std.proofs.lemmas.List.{get_or-drop}
 use borrow.Author.Tests.{eq-eqb, ne_eqb, lt-ltb, le-ltb, le-leb, lt-leb}
@@ -50,15 +50,6 @@ member_put op id s i w l e j = go (ℕ_discrete (j / word_bits) (i / word_bits))
         ∙ sym (id (has_bit (get_or s (j / word_bits) 0) (j % word_bits)))
         ∙ ap (λ (b : Bool). op b (has_bit (get_or s (j / word_bits) 0) (j % word_bits))) (sym (ne_eqb j i (λ z. d (ap (λ (x : ℕ). x / word_bits) z))))
 
--- one row more below a bound
-pub below_more : (j i : ℕ) → (eqb j i || ltb j i) ≡ ltb j (i + 1)
-below_more j i = go (ℕ_discrete j i) (dec_lt j i)
-  where
-    go : Dec (j ≡ i) → Dec (j < i) → (eqb j i || ltb j i) ≡ ltb j (i + 1)
-    go (yes e) d = ap (λ (b : Bool). b || ltb j i) (eq-eqb j i e) ∙ sym (lt-ltb j (i + 1) (omega arith))
-    go (no n) (yes l) = ap (λ (b : Bool). b || ltb j i) (ne_eqb j i n) ∙ lt-ltb j i l ∙ sym (lt-ltb j (i + 1) (omega arith))
-    go (no n) (no m) = ap (λ (b : Bool). b || ltb j i) (ne_eqb j i n) ∙ le-ltb j i (omega arith) ∙ sym (le-ltb j (i + 1) (omega arith))
-
 -- ---- two sets joined word by word, by an operation on flags
 
 -- of two flags the first alone
@@ -72,23 +63,6 @@ pub record Joined (op : Bool → Bool → Bool) (a b s : List ℕ) (k : ℕ) : T
   pub left : (m : ℕ) → k ≤ m → get_or s m 0 ≡ get_or a m 0
 
 module _ (op : Bool → Bool → Bool) (a b : List ℕ) where
-  pub joined_none : length a ≡ row_words → Joined op a b a 0
-  joined_none l = record { long = l; done = λ m x h. absurd (omega arith); left = λ m h. refl }
-
-  pub joined_more : (s : List ℕ) (k v : ℕ) → k < row_words → Joined op a b s k → ((x : ℕ) → has_bit v x ≡ op (has_bit (get_or s k 0) x) (has_bit (get_or b k 0) x))
-      → Joined op a b (set s k v) (k + 1)
-  joined_more s k v l h e = record {
-    long = length-set s k v ∙ h.long;
-    done = λ m x n. go m x n (ℕ_discrete m k);
-    left = λ m n. get_or-set_other s k m v 0 (λ z. omega arith) ∙ h.left m (omega arith);
-  }
-    where
-      go : (m x : ℕ) → m < k + 1 → Dec (m ≡ k) → has_bit (get_or (set s k v) m 0) x ≡ op (has_bit (get_or a m 0) x) (has_bit (get_or b m 0) x)
-      go m x n (yes d) =
-          ap (λ (y : ℕ). has_bit (get_or (set s k v) y 0) x) d ∙ ap (λ (y : ℕ). has_bit y x) (get_or-set_same s k v 0 (omega (arith, h.long))) ∙ e x
-          ∙ ap (λ (y : ℕ). op (has_bit y x) (has_bit (get_or b k 0) x)) (h.left k (omega arith)) ∙ ap (λ (y : ℕ). op (has_bit (get_or a y 0) x) (has_bit (get_or b y 0) x)) (sym d)
-      go m x n (no d) = ap (λ (y : ℕ). has_bit y x) (get_or-set_other s k m v 0 d) ∙ h.done m x (omega arith)
-
   pub joined_all : op false false ≡ false → length a ≡ row_words → length b ≡ row_words → (s : List ℕ) (k : ℕ) → Joined op a b s k → row_words ≤ k → (j : ℕ) → member s j ≡ op (member a j) (member b j)
   unfolding member
   joined_all e l m s k h g j = go (dec_lt (j / word_bits) row_words)

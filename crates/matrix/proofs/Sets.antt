@@ -1,4 +1,4 @@
--- What the iterators over sets take, and what a loop over a set may use. Assumes nothing.
+-- What the iterators over sets take, the first row from a number on, and how many rows there are. Assumes nothing.
 use mathlib.Core.Path.{◌≡◌, refl, sym, ap, ap₂, ◌∙◌}
 use mathlib.Core.List.{List, [], ◌∷◌}
 use mathlib.Core.Bool.{Bool, true, false, cond, ◌&&◌}

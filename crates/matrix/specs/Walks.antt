@@ -11,6 +11,10 @@ use Rattle.matrix.specs.declared.words.Bits.{Bits}
 abbrev pub bits_end : Bits → ℕ
 bits_end s = word_bits
 
+-- the word that is left
+abbrev pub bits_word : Bits → ℕ
+bits_word s = s.left
+
 abbrev pub bits_left : Bits → ℕ → Bool
 bits_left s = has_bit s.left
 

@@ -13,40 +13,6 @@ pub mod rows;
 pub mod transposed;
 pub mod words;
 
-// The columns of each row.
-#[derive(Clone, Copy)]
-pub struct Incidence<'a> {
-    pub words: &'a [columns::Set],
-    ghost few: { row_count words.now ≤ row_limit },
-}
-
-impl<'a> Incidence<'a> {
-    pub fn new(words: &'a [columns::Set]) -> Incidence<'a>
-        requires { row_count words.now ≤ row_limit }
-        ensures { result.words.now ≡ words.now }
-    {
-        Incidence { words }
-    }
-
-    // The number of rows.
-    #[inline]
-    pub fn rows(self) -> usize
-        ensures is { result ≡ row_count self.entry.words.now }
-        ensures few { result ≤ row_limit }
-    {
-        self.words.len()
-    }
-
-    // The columns that the row i covers.
-    #[inline]
-    pub fn columns_of(self, i: usize) -> columns::Set
-        requires { i < row_count self.words.now }
-        ensures { result ≡ covered self.entry.words.now i }
-    {
-        self.words[i]
-    }
-}
-
 // A covering matrix: the columns of each row, and its weight.
 #[derive(Clone, Copy)]
 pub struct Matrix<'a> {
@@ -56,6 +22,7 @@ pub struct Matrix<'a> {
 }
 
 impl<'a> Matrix<'a> {
+    // The matrix with these columns and weights.
     pub fn new(words: &'a [columns::Set], weights: &'a [u32]) -> Matrix<'a>
         requires { Sizes words.now weights.now }
         ensures words { result.words.now ≡ words.now }

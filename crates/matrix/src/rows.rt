@@ -34,7 +34,7 @@ impl Model for Set {
 impl Set {
     ghost use Rattle.std.specs.Iterator.Runs.{EachRunFrom};
     ghost use Rattle.numbers.specs.Ascending.{GivesBelow};
-    ghost use Rattle.matrix.specs.Walks.{rows_left, YieldsRows};
+    ghost use Rattle.matrix.specs.Walks.{rows_end, rows_left, YieldsRows};
 
     // The word k.
     #[inline]
@@ -118,7 +118,7 @@ impl Set {
         set
     }
 
-    // The rows that the other set lacks.
+    // The rows that the other set lacks. (Not one function with `union`: to a closure for the word it would have to promise the lengths of three lists.)
     pub fn difference(&self, other: &Set) -> Set
         ensures { (j : ℕ) → member result j ≡ (member self.now j && not (member other.now j)) }
     {
@@ -133,7 +133,7 @@ impl Set {
     #[inline]
     pub fn iter(&self, end: usize) -> Rows<'_>
         requires { end ≤ row_limit }
-        ensures end { result.end ≡ end }
+        ensures end { rows_end result ≡ end }
         ensures set { (j : ℕ) → rows_left result j ≡ member self.now j }
         ensures runs { EachRunFrom YieldsRows result (GivesBelow end (member self.now)) }
     {

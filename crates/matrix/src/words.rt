@@ -3,7 +3,7 @@ ghost use Rattle.std.specs.Prelude.{◌≡◌, true, not, ◌&&◌, ◌||◌, �
 ghost use Rattle.matrix.specs.Sets.{word_bits, has_bit, has_raised, Emptiness, Meeting, Inclusion, Next, NextIfAny};
 ghost use Rattle.std.specs.Iterator.Runs.{EachRunFrom};
 ghost use Rattle.numbers.specs.Ascending.{GivesBelow};
-ghost use Rattle.matrix.specs.Walks.{YieldsBits, bits_count};
+ghost use Rattle.matrix.specs.Walks.{YieldsBits, bits_word, bits_count};
 
 use std::marker::Model;
 use std::ops::{BitAnd, BitOr, Shl, Shr, Sub};
@@ -11,8 +11,8 @@ use std::ops::{BitAnd, BitOr, Shl, Shr, Sub};
 // The bits of a word.
 pub const BITS: usize = 64;
 
-// A word.
-#[derive(Clone, Copy, PartialEq, Eq)]
+// A word. By default it has no bit.
+#[derive(Clone, Copy, Default, PartialEq, Eq)]
 #[repr(C)]
 pub struct Word(u64);
 
@@ -247,7 +247,7 @@ impl IntoIterator for Word {
 
     type IntoIter = Bits;
 
-    ghost into_iter_gives = { λ w r. (r.left ≡ w) × ((b : ℕ) → has_bit w b ≡ true → b < word_bits) × EachRunFrom YieldsBits r (GivesBelow word_bits (has_bit w)) };
+    ghost into_iter_gives = { λ w r. (bits_word r ≡ w) × ((b : ℕ) → has_bit w b ≡ true → b < word_bits) × EachRunFrom YieldsBits r (GivesBelow word_bits (has_bit w)) };
 
     #[inline]
     #[tactic(auto, using(crate::proofs::Bits::bits_within))]

@@ -2,15 +2,13 @@
 -- pass that stores a value for each number that passes a test, and a pass that fills a list with a function's values. Assumes nothing.
 use mathlib.Core.Path.{◌≡◌, refl, sym, ap, ap₂, ◌∙◌, subst, subst₂}
 use mathlib.Core.Bool.{Bool, true, false, cond}
-use mathlib.Core.List.{List, [], ◌∷◌, ◌++◌, append-nil, append_assoc, map, map-id}
+use mathlib.Core.List.{List, [], ◌∷◌, ◌++◌, append-nil, map, map-id}
 use Prim.Native.Nat.{ℕ, suc, ◌+◌, ◌-◌, ◌<◌, ◌≤◌}
 use native.Mathlib.Nat.{zero-add, add-zero, add-suc, suc-add}
 use native.Mathlib.Numerals.{add-one}
 use native.Mathlib.Omega.{arith}
-use lib.ListN.{length, length-append, length-map, set, take, drop, drop_of_length-le, take-append-drop, get_or, get_or-append}
-use lib.Seq.{sets, length-sets, sets-eq, take-length, length-take-le, drop-append-add, drop-drop, get_or-set_same, get_or-set_other}
-use borrow.Author.Count.{below_more}
-use borrow.Rule.Slice.PartMut.{mid_of, put_mid, mid_len, Post-is}
+use lib.ListN.{length, length-append, length-map, set, take, drop, take-append-drop, get_or}
+use lib.Seq.{sets, length-sets, sets-eq, take-length, length-take-le, drop-append-add, drop-drop}
 use borrow.Table.Elements.{map_app}
 use Rattle.numbers.specs.Below.{those}
 use Rattle.numbers.specs.Lent.{Puts}
@@ -27,14 +25,6 @@ sets_append l i (x ∷ xs) ys =
 pub sets_front : (xs old : List ℕ) → length xs ≤ length old → sets old 0 xs ≡ xs ++ drop (length xs) old
 sets_front xs old h = sets-eq xs old 0 (omega arith) ∙ ap (λ (i : ℕ). xs ++ drop i old) (zero-add (length xs))
 
-pub sets_at : (xs old : List ℕ) (i : ℕ) → length xs ≤ length old → i < length xs → get_or (sets old 0 xs) i 0 ≡ get_or xs i 0
-sets_at xs old i h l = ap (λ (l : List ℕ). get_or l i 0) (sets_front xs old h) ∙ get_or-append xs (drop (length xs) old) 0 i l
-
--- what comes after a run of stores is as it was
-pub sets_behind : (xs l : List ℕ) (i j : ℕ) → i + length xs ≤ j → get_or (sets l i xs) j 0 ≡ get_or l j 0
-sets_behind [] l i j h = refl
-sets_behind (x ∷ xs) l i j h = sets_behind xs (set l i x) (suc i) j (omega arith) ∙ get_or-set_other l i j x 0 (λ e. omega arith)
-
 -- a list that starts with what is there changes nothing by its front
 sets_same : (l : List ℕ) (i : ℕ) → i ≤ length l → sets l 0 (take i l) ≡ l
 sets_same l i h =
@@ -44,20 +34,6 @@ sets_same l i h =
 -- a copy of a whole source into the front of a list
 pub copied : (src old : List ℕ) {new : List ℕ} → new ≡ take (length src) src ++ drop (length src) old → new ≡ src ++ drop (length src) old
 copied src old h = h ∙ ap (λ (l : List ℕ). l ++ drop (length src) old) (take-length src)
-
--- a middle part that was lent and comes back with a copy of a source of its length: a run of stores
-pub put_copied : (a e : ℕ) (xs src part : List ℕ) → a + length src ≡ e → e ≤ length xs → part ≡ take (length src) src ++ drop (length src) (mid_of a (e - a) xs)
-    → put_mid a (e - a) xs part ≡ sets xs a src
-put_copied a e xs src part s h d =
-    ap (λ (l : List ℕ). put_mid a (e - a) xs l) whole ∙ ap (λ (l : List ℕ). take a xs ++ (src ++ l)) (Post-is a e xs (omega arith))
-    ∙ sym (append_assoc (take a xs) src (drop e xs))
-    ∙ sym (sets-eq src xs a (omega arith) ∙ ap (λ (i : ℕ). take a xs ++ src ++ drop i xs) s)
-  where
-    full : length (mid_of a (e - a) xs) ≤ length src
-    full = omega (arith, mid_len a e xs h)
-
-    whole : part ≡ src
-    whole = copied src (mid_of a (e - a) xs) d ∙ ap (λ (l : List ℕ). src ++ l) (drop_of_length-le (mid_of a (e - a) xs) full) ∙ append-nil src
 
 -- ---- a list that is put into lent places
 
@@ -101,10 +77,6 @@ module _ {xs old new : List ℕ} {next : ℕ} (p : Puts xs old 0 new next) (l : 
 -- a list that stands in the first places already
 pub puts_there : {xs l : List ℕ} {count : ℕ} → count ≤ length l → take count l ≡ xs → Puts xs l 0 l count
 puts_there {xs} {l} {count} h e = puts_same e (record { behind = sym (ap (λ (k : ℕ). 0 + k) (length-take-le count l h) ∙ zero-add count); places = sym (sets_same l count h) })
-
--- a list from a place on, with what stands before that place
-pub puts_with_front : {ys old new : List ℕ} {at next : ℕ} → at ≤ length old → Puts ys old at new next → Puts (take at old ++ ys) old 0 new next
-puts_with_front {ys} {old} {new} {at} h p = puts_append (puts_there h refl) p
 
 -- a list over one that is not longer
 pub puts_over : {xs ys old mid new : List ℕ} {count next : ℕ} → length xs ≤ length ys → length ys ≤ length old → Puts xs old 0 mid count → Puts ys mid 0 new next
@@ -151,9 +123,6 @@ module _ (g : ℕ → ℕ) (f : ℕ → Bool) (old : List ℕ) where
     pub collect_le : count ≤ m
     collect_le = omega (arith, those-length f m, collect_counts)
 
-    pub collect_long : length new ≡ length old
-    collect_long = puts_long h.puts
-
     -- as the two arms of a pass leave the list and the count
     pub collect_yes : {new' : List ℕ} {count' : ℕ} → f m ≡ true → new' ≡ set new count (g m) → count' ≡ count + 1 → Collected g f old new' (m + 1) count'
     collect_yes e a b =
@@ -174,10 +143,3 @@ module _ (g : ℕ → ℕ) (f : ℕ → Bool) (old : List ℕ) where
 pub collected_numbers : (f : ℕ → Bool) (old new : List ℕ) (m count : ℕ) → Collected (λ i. i) f old new m count → {k : ℕ} → m ≡ k
     → Puts (those k f) old 0 new count
 collected_numbers f old new m count h {k} e = puts_same (map-id (those k f)) (collected (λ i. i) f old new m count h e)
-
--- ---- a function's values, stored one by one
-
-pub fill_more : (g : ℕ → ℕ) (fs : List ℕ) (q x : ℕ) → q < length fs → ((k : ℕ) → k < q → get_or fs k 0 ≡ g k) → x ≡ g q
-    → (k : ℕ) → k < q + 1 → get_or (set fs q x) k 0 ≡ g k
-fill_more g fs q x l m e =
-    below_more (λ k. get_or (set fs q x) k 0 ≡ g k) q (λ k h. get_or-set_other fs q k x 0 (λ d. omega arith) ∙ m k h) (get_or-set_same fs q x 0 l ∙ e)

@@ -55,7 +55,7 @@ those_less (suc m) f g x l p q h = go (dec_lt x m) (λ k. those_less m f g x k p
     go (no k) ih = let e : x ≡ m = omega arith in last (g m) (f m) (subst (λ (i : ℕ). g i ≡ false) e q) (subst (λ (i : ℕ). f i ≡ true) e p)
 
 module _ {S : Type 0} {end : S → ℕ} {left : S → ℕ → Bool} where
-  pub fewer_left : {s t : S} {x : ℕ} → TakesLeast end left s x t → length (those (end t) (left t)) < length (those (end s) (left s))
+  fewer_left : {s t : S} {x : ℕ} → TakesLeast end left s x t → length (those (end t) (left t)) < length (those (end s) (left s))
   fewer_left {s} {t} {x} h =
       subst (λ (m : ℕ). length (those m (left t)) < length (those (end s) (left s))) (sym h.bound)
       (those_less (end s) (left s) (left t) x h.within h.here

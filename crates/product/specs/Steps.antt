@@ -1,12 +1,10 @@
 -- What the functions of `product` promise on the way: what is left of the text of a sum, and room for what is printed. No promise of the program cites it.
 -- Assumes nothing.
-use Rattle.std.specs.Prelude.{◌≡◌, Bool, cond, List, [], ◌∷◌, ◌++◌, ℕ, ◌+◌, ◌-◌, ◌*◌, ◌^◌, ◌≤◌, eqb, length}
+use Rattle.std.specs.Prelude.{Bool, cond, List, [], ◌∷◌, ◌++◌, ℕ, ◌+◌, ◌-◌, ◌*◌, ◌^◌, eqb}
 use Prim.Native.Char.{code}
 use Rattle.numbers.specs.Below.{flag}
-use Rattle.cube.specs.Words.{rows_of}
 use Rattle.cube.specs.Calls.{widest}
-use Rattle.text.specs.Steps.{most_variables}
-use Rattle.product.specs.Product.{Literal, Sum, literal_text, excluding_line}
+use Rattle.product.specs.Product.{Literal, Sum, literal_text}
 
 -- the literal of a tested bit of variable xk
 abbrev pub literal_of : ℕ → Bool → Literal
@@ -20,12 +18,6 @@ last_character before = cond (eqb before (code "(")) (code "0") (code ")")
 unfoldable pub rest_text : ℕ → Sum → List ℕ
 rest_text before [] = last_character before ∷ []
 rest_text before (l ∷ ls) = before ∷ literal_text l ++ rest_text (code "+") ls
-
--- a list that can be printed in this many places: two arrays of one length, and room for its line
-pub record PrintableLine (n : ℕ) (values cares : List ℕ) (places : ℕ) : Type 0 where
-  pub width : n ≤ most_variables
-  pub same : length values ≡ length cares
-  pub room : length (excluding_line n (rows_of values cares)) ≤ places
 
 -- room for any line of a shortest list at the widest width: a bracket or plus sign, `x`, a digit and `'` for each literal, the last bracket of each sum,
 -- and the line feed

@@ -1,7 +1,7 @@
 // The product of sums of a list, with a sum for each row: it is 1 exactly on the codes that no row matches. Each function writes behind what its text has
 // already.
 //
-//     product::line::<MOST_LINE>(2, &[0], &[3])      // for the row 00: (x1+x2) and a line feed
+//     product::line::<MOST_LINE>(2, Rows { values: &[0], cares: &[3] })      // for the row 00: (x1+x2) and a line feed
 #![tactic(auto)]
 
 ghost use Rattle.std.specs.Prelude.{◌≡◌, ◌++◌, ◌+◌, ◌<◌, ◌≤◌, length};
@@ -9,9 +9,11 @@ ghost use Rattle.arrayvec.specs.ArrayString.{array_string_len};
 ghost use Rattle.cube.specs.Words.{rows_of};
 ghost use Rattle.text.specs.Steps.{most_variables};
 ghost use Rattle.product.specs.Product.{literal_text, sum_text, row_sum, excluding_text, excluding_line};
-ghost use Rattle.product.specs.Steps.{literal_of, last_character, PrintableLine};
+ghost use Rattle.product.specs.Steps.{literal_of, last_character};
 
 use arrayvec::ArrayString;
+use cube::Row;
+use lists::Rows;
 use spelling::MOST_CODE_PAIRS;
 use text::output;
 
@@ -39,14 +41,14 @@ fn last(before: char) -> char
 }
 
 // The sum of a row, x1 first. A bracket is before its first literal, and a plus sign before each further one.
-fn sum<const N: usize>(n: usize, value: u8, care: u8, out: &mut ArrayString<N>)
+fn sum<const N: usize>(n: usize, row: Row, out: &mut ArrayString<N>)
     requires width { n ≤ most_variables }
-    requires room { array_string_len out.old + length (sum_text (row_sum n (record { value = value; care = care }))) ≤ N }
-    ensures { out.new.bytes ≡ out.old.bytes ++ sum_text (row_sum n (record { value = value; care = care })) }
+    requires room { array_string_len out.old + length (sum_text (row_sum n row)) ≤ N }
+    ensures { out.new.bytes ≡ out.old.bytes ++ sum_text (row_sum n row) }
 {
     let mut before = '(';
     for i in 0..n {
-        if let Some(one) = output::tested(n, i + 1, value, care) {
+        if let Some(one) = output::tested(n, i + 1, row) {
             out.push(before);
             literal(i + 1, one, out);
             before = '+';
@@ -56,28 +58,32 @@ fn sum<const N: usize>(n: usize, value: u8, care: u8, out: &mut ArrayString<N>)
 }
 
 // The sums of a list; 1 where there is no row.
-fn sums<const N: usize>(n: usize, values: &[u8], cares: &[u8], out: &mut ArrayString<N>)
+fn sums<const N: usize>(n: usize, rows: Rows, out: &mut ArrayString<N>)
     requires width { n ≤ most_variables }
-    requires same { length values.now ≡ length cares.now }
-    requires room { array_string_len out.old + length (excluding_text n (rows_of values.now cares.now)) ≤ N }
-    ensures { out.new.bytes ≡ out.old.bytes ++ excluding_text n (rows_of values.now cares.now) }
+    requires room { array_string_len out.old + length (excluding_text n (rows_of rows.values.now rows.cares.now)) ≤ N }
+    ensures { out.new.bytes ≡ out.old.bytes ++ excluding_text n (rows_of rows.entry.values.now rows.entry.cares.now) }
 {
-    if values.is_empty() {
+    if rows.values.is_empty() {
         out.push_str("1");
         return;
     }
-    for (value, care) in values.iter().zip(cares) {
-        sum(n, *value, *care, out);
+    for (value, care) in rows.values.iter().zip(rows.cares) {
+        let row = Row {
+            value: *value,
+            care: *care,
+        };
+        sum(n, row, out);
     }
 }
 
 // What is printed for a list: its product of sums on one line.
-pub fn line<const N: usize>(n: usize, values: &[u8], cares: &[u8]) -> ArrayString<N>
-    requires { PrintableLine n values.now cares.now N }
-    ensures { result.bytes ≡ excluding_line n (rows_of values.now cares.now) }
+pub fn line<const N: usize>(n: usize, rows: Rows) -> ArrayString<N>
+    requires width { n ≤ most_variables }
+    requires room { length (excluding_line n (rows_of rows.values.now rows.cares.now)) ≤ N }
+    ensures { result.bytes ≡ excluding_line n (rows_of rows.entry.values.now rows.entry.cares.now) }
 {
     let mut out = ArrayString::new();
-    sums(n, values, cares, &mut out);
+    sums(n, rows, &mut out);
     out.push('\n');
     out
 }

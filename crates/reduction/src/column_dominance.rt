@@ -21,7 +21,7 @@ fn narrow(along: &mut Companions, row: columns::Set, undecided: columns::Set)
 
 // For each undecided column, the columns that every live row covering it covers too.
 fn come_along(problem: &Subproblem) -> Companions
-    ensures { Along problem.now.matrix.words.now problem.now.live.now problem.now.undecided (row_count problem.now.matrix.words.now) result }
+    ensures { let p = problem.now in Along p.matrix.words.now p.live.now p.undecided (row_count p.matrix.words.now) result }
 {
     let mut along = [columns::ALL; columns::LIMIT];
     for i in problem.live.iter(problem.matrix.rows()) {
@@ -32,7 +32,7 @@ fn come_along(problem: &Subproblem) -> Companions
 
 // The undecided columns without those that another one brings along.
 pub fn drop_columns(problem: &Subproblem) -> columns::Set
-    ensures { (weights : List ℕ) → Keeps problem.now.matrix.words.now weights problem.now.live.now problem.now.undecided problem.now.live.now result }
+    ensures { let p = problem.now in (weights : List ℕ) → Keeps p.matrix.words.now weights p.live.now p.undecided p.live.now result }
 {
     let along = come_along(problem);
     let mut kept = problem.undecided;

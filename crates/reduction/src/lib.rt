@@ -34,7 +34,7 @@ fn pass(matrix: Matrix, state: &mut Remaining)
 #[inline(never)]
 #[tactic(auto, using(crate::proofs::Steps::start, matrix::proofs::Without::size_fewer, matrix::proofs::Without::size_most))]
 pub fn cyclic_core(problem: &Subproblem) -> Remaining
-    ensures { Reduces problem.now.matrix.words.now problem.now.matrix.weights.now problem.now.live.now problem.now.undecided result }
+    ensures { let p = problem.now in Reduces p.matrix.words.now p.matrix.weights.now p.live.now p.undecided result }
 {
     let mut state = Remaining {
         live: *problem.live,

@@ -11,7 +11,7 @@ use matrix::{Matrix, Subproblem, columns, rows};
 // Whether the row j is another live row that covers the undecided columns of i and weighs no more.
 fn dominates(problem: &Subproblem, i: usize, j: usize) -> bool
     requires { (i < row_count problem.now.matrix.words.now) × (j < row_count problem.now.matrix.words.now) }
-    ensures { result ≡ true → Dominates problem.now.matrix.words.now problem.now.matrix.weights.now problem.now.live.now problem.now.undecided i j }
+    ensures { let p = problem.now in result ≡ true → Dominates p.matrix.words.now p.matrix.weights.now p.live.now p.undecided i j }
 {
     let set = problem.matrix.columns_of(i) & problem.undecided;
     set.is_subset(problem.matrix.columns_of(j))
@@ -24,7 +24,7 @@ fn dominates(problem: &Subproblem, i: usize, j: usize) -> bool
 #[tactic(auto, using(numbers::proofs::Closures::asked))]
 fn is_droppable(problem: &Subproblem, by_column: &ByColumn, i: usize) -> bool
     requires { i < row_count problem.now.matrix.words.now }
-    ensures { result ≡ true → Droppable problem.now.matrix.words.now problem.now.matrix.weights.now problem.now.live.now problem.now.undecided i }
+    ensures { let p = problem.now in result ≡ true → Droppable p.matrix.words.now p.matrix.weights.now p.live.now p.undecided i }
 {
     match (problem.matrix.columns_of(i) & problem.undecided).first() {
         None => true,

@@ -6,15 +6,16 @@
 ghost use Rattle.reply.specs.Reply.{RowsFor};
 
 use arrayvec::ArrayString;
-use plan::Planned;
+use cube::Refusal;
+use lists::Rows;
 use spelling::MOST_CODE_PAIRS;
 use text::output::{self, MOST_OUTPUT};
 use text::program::{self, Program};
 
 // The program.
-pub struct Rows;
+pub struct RowsReply;
 
-impl Program<MOST_OUTPUT> for Rows {
+impl Program<MOST_OUTPUT> for RowsReply {
     ghost use Rattle.std.proofs.Common.{lit≤};
     ghost use Rattle.plan.specs.Theorems.{MayWrite};
     ghost use Rattle.text.specs.Output.{rows_text};
@@ -25,13 +26,15 @@ impl Program<MOST_OUTPUT> for Rows {
 
     ghost room = { lit≤ tt };
 
-    fn show(n: usize, cells: &[u8]) -> Result<ArrayString<MOST_OUTPUT>, u8> {
+    fn show(n: usize, cells: &[u8]) -> Result<ArrayString<MOST_OUTPUT>, Refusal> {
         let mut values = [0u8; MOST_CODE_PAIRS];
         let mut cares = [0u8; MOST_CODE_PAIRS];
-        match plan::plan(n, cells, &mut values, &mut cares) {
-            Planned::Rows(rows, bits) => Ok(output::list(n, &values[..rows], &cares[..rows], bits)),
-            Planned::Refused(k) => Err(k),
-        }
+        let totals = plan::plan(n, cells, &mut values, &mut cares)?;
+        let rows = Rows {
+            values: &values[..totals.rows],
+            cares: &cares[..totals.rows],
+        };
+        Ok(output::list(n, rows, totals.bits))
     }
 }
 
@@ -39,5 +42,5 @@ impl Program<MOST_OUTPUT> for Rows {
 pub fn whole(input: &[u8]) -> ArrayString<MOST_OUTPUT>
     ensures { RowsFor input.now result.bytes }
 {
-    program::whole::<Rows, MOST_OUTPUT>(input)
+    program::whole::<RowsReply, MOST_OUTPUT>(input)
 }

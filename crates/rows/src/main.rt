@@ -2,12 +2,12 @@
 // grammar and the lines are `text`'s, and what is printed is `reply`'s.
 #![tactic(auto)]
 
-use reply::Rows;
+use reply::RowsReply;
 use text::output::MOST_OUTPUT;
 
 fn main(rt: HostRuntime) {
-    let text = streams::answer::<Rows, _, MOST_OUTPUT>(&mut rt.stdin());
-    streams::send::<Rows, _, _, MOST_OUTPUT>(
+    let text = streams::answer::<RowsReply, _, MOST_OUTPUT>(&mut rt.stdin());
+    streams::send::<RowsReply, _, _, MOST_OUTPUT>(
         &mut rt.stdout(),
         &mut rt.stderr(),
         text.as_bytes(),

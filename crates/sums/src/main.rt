@@ -3,11 +3,11 @@
 #![tactic(auto)]
 
 use product::MOST_LINE;
-use sums_reply::Sums;
+use sums_reply::SumsReply;
 
 fn main(rt: HostRuntime) {
-    let text = streams::answer::<Sums, _, MOST_LINE>(&mut rt.stdin());
-    streams::send::<Sums, _, _, MOST_LINE>(
+    let text = streams::answer::<SumsReply, _, MOST_LINE>(&mut rt.stdin());
+    streams::send::<SumsReply, _, _, MOST_LINE>(
         &mut rt.stdout(),
         &mut rt.stderr(),
         text.as_bytes(),

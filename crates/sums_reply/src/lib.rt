@@ -6,15 +6,16 @@
 ghost use Rattle.sums_reply.specs.Sums.{SumsFor};
 
 use arrayvec::ArrayString;
-use plan::Planned;
+use cube::Refusal;
+use lists::Rows;
 use product::MOST_LINE;
 use spelling::MOST_CODE_PAIRS;
 use text::program::{self, Program};
 
 // The program.
-pub struct Sums;
+pub struct SumsReply;
 
-impl Program<MOST_LINE> for Sums {
+impl Program<MOST_LINE> for SumsReply {
     ghost use Rattle.std.proofs.Common.{lit≤};
     ghost use Rattle.keep_out.specs.KeepOut.{MayKeepOut};
     ghost use Rattle.product.specs.Product.{excluding_line};
@@ -25,13 +26,15 @@ impl Program<MOST_LINE> for Sums {
 
     ghost room = { lit≤ tt };
 
-    fn show(n: usize, cells: &[u8]) -> Result<ArrayString<MOST_LINE>, u8> {
+    fn show(n: usize, cells: &[u8]) -> Result<ArrayString<MOST_LINE>, Refusal> {
         let mut values = [0u8; MOST_CODE_PAIRS];
         let mut cares = [0u8; MOST_CODE_PAIRS];
-        match keep_out::keep_out(n, cells, &mut values, &mut cares) {
-            Planned::Rows(rows, _) => Ok(product::line(n, &values[..rows], &cares[..rows])),
-            Planned::Refused(k) => Err(k),
-        }
+        let totals = keep_out::keep_out(n, cells, &mut values, &mut cares)?;
+        let rows = Rows {
+            values: &values[..totals.rows],
+            cares: &cares[..totals.rows],
+        };
+        Ok(product::line(n, rows))
     }
 }
 
@@ -39,5 +42,5 @@ impl Program<MOST_LINE> for Sums {
 pub fn whole(input: &[u8]) -> ArrayString<MOST_LINE>
     ensures { SumsFor input.now result.bytes }
 {
-    program::whole::<Sums, MOST_LINE>(input)
+    program::whole::<SumsReply, MOST_LINE>(input)
 }

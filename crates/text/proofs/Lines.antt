@@ -1,7 +1,7 @@
 -- The lines of one more row; and how long the lines of a list are.
 -- Assumes nothing.
-use mathlib.Core.Path.{◌≡◌, sym, ap, ◌∙◌}
-use mathlib.Core.List.{List, [], ◌∷◌, ◌++◌, append-nil, append_assoc}
+use mathlib.Core.Path.{◌≡◌, ap, ◌∙◌}
+use mathlib.Core.List.{List, [], ◌∷◌, ◌++◌}
 use Prim.Native.Nat.{ℕ, ◌+◌, ◌*◌, ◌^◌, ◌<◌, ◌≤◌}
 use native.Mathlib.Omega.{arith}
 use lib.ListN.{length, length-append}
@@ -15,11 +15,6 @@ use Rattle.text.specs.Steps.{most_digits, most_refusal}
 use Rattle.text.proofs.Decimals.{decimal_length}
 
 -- ---- lines
-
-pub lines_append : (n : ℕ) (rs : Cover) (r : Row) → list_lines n (rs ++ (r ∷ [])) ≡ list_lines n rs ++ row_line n r
-unfolding list_lines
-lines_append n [] r = append-nil (row_line n r)
-lines_append n (s ∷ rs) r = ap (λ (l : List ℕ). row_line n s ++ l) (lines_append n rs r) ∙ sym (append_assoc (row_line n s) (list_lines n rs) (row_line n r))
 
 pub line_length : (n : ℕ) (r : Row) → length (row_line n r) ≡ n + 1
 line_length n r = length-append (tabulate n 1 (character_of_variable n r)) (line_feed ∷ []) ∙ ap (λ (i : ℕ). i + 1) (tabulate-length (character_of_variable n r) n 1)

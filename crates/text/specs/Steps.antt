@@ -75,11 +75,10 @@ most_output = (widest + 1) * 2 ^ (widest - 1) + (length (bytes "rows  bits ") + 
 abbrev pub most_refusal : ℕ
 most_refusal = length (bytes "refused 255\n")
 
--- a list that can be printed: the rows of two arrays, which are few
-pub record Printable (n : ℕ) (values cares : List ℕ) : Type 0 where
+-- a list that can be printed: this many rows of this width
+pub record Printable (n rows : ℕ) : Type 0 where
   pub width : n ≤ widest
-  pub same : length values ≡ length cares
-  pub few : length values ≤ 2 ^ (widest - 1)
+  pub few : rows ≤ 2 ^ (widest - 1)
 
 -- ---- a digit of a row
 
@@ -91,9 +90,8 @@ digit_number (Some tested) = flag tested
 -- ---- the steps to the output of a program that shows lists in this way and may show those of which May is true
 
 module _ (shown : ℕ → Cover → List ℕ) (May : ℕ → List ℕ → Cover → Type 0) where
-  -- a table is not refused, and the text shows a list
+  -- the text shows a list for the table
   pub record ShowsTable (n : ℕ) (t text : List ℕ) : Type 0 where
-    pub accepted : first_of (table_conditions n t) ≡ 0
     pub list : Cover
     pub is_written : May n t list
     pub is_text : text ≡ shown n list
@@ -103,8 +101,3 @@ module _ (shown : ℕ → Cover → List ℕ) (May : ℕ → List ℕ → Cover 
     pub list : Cover
     pub is_written : (t : Table) → closed state ≡ gives t → first_of (table_conditions t.width t.cells) ≡ 0 → May t.width t.cells list
     pub is_output : text ≡ printed shown (closed state) list
-
--- a table is refused with this number
-pub record RefusesTable (n : ℕ) (t : List ℕ) (k : ℕ) : Type 0 where
-  pub number : first_of (table_conditions n t) ≡ k
-  pub refused : k ≡ 0 → ⊥

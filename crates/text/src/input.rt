@@ -3,7 +3,7 @@
 //     let mut reader = Reader::new();
 //     reader.feed(b"2\n01");
 //     reader.feed(b"11\n");
-//     reader.text()      // width 2 and the cells 0 1 1 1
+//     reader.text()?      // width 2 and the cells 0 1 1 1
 //
 // Nothing is refused before the text ends.
 ghost use Rattle.std.specs.Prelude.{◌≡◌, MatchOption, false, true, [], ◌∷◌, ◌++◌};
@@ -11,6 +11,7 @@ ghost use Rattle.text.specs.Input.{cell_of, is_cell, is_digit, width_of};
 ghost use Rattle.text.specs.Steps.{keep};
 
 use arrayvec::ArrayVec;
+use cube::Refusal;
 use spelling::MOST_CODES;
 use std::marker::Model;
 
@@ -118,9 +119,8 @@ impl Model for Reader {
 }
 
 impl Reader {
-    ghost use Rattle.std.specs.Prelude.{◌≡◌, MatchOption, [], ◌∷◌};
-    ghost use Rattle.cube.specs.Calls.{refuses, gives};
-    ghost use Rattle.text.specs.Input.{not_in_form};
+    ghost use Rattle.std.specs.Prelude.{◌≡◌, MatchResult};
+    ghost use Rattle.cube.specs.Calls.{refusal_number, refuses, gives};
     ghost use Rattle.text.specs.Steps.{State, at_start, wrong, stepped, fed, closed};
 
     // Nothing has been read yet.
@@ -158,17 +158,17 @@ impl Reader {
         self.next = None;
     }
 
-    // What the text says, where it is in form and ends here.
-    pub fn text(&self) -> Option<Text<'_>>
-        ensures { MatchOption result (closed self.now ≡ refuses not_in_form)
-            (λ t. closed self.now ≡ gives (record { width = t.width; cells = t.cells.now })) }
+    // What the text says, where it ends here.
+    pub fn text(&self) -> Result<Text<'_>, Refusal>
+        ensures { MatchResult result (λ t. closed self.now ≡ gives (record { width = t.width; cells = t.cells.now }))
+            (λ e. closed self.now ≡ refuses (refusal_number e)) }
     {
-        match self.next? {
-            Next::End(width) => Some(Text {
+        match self.next {
+            Some(Next::End(width)) => Ok(Text {
                 width,
                 cells: &self.cells,
             }),
-            _ => None,
+            _ => Err(Refusal::Text),
         }
     }
 }

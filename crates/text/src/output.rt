@@ -3,12 +3,14 @@ ghost use Rattle.std.specs.Prelude.{◌≡◌, ◌∷◌, ◌++◌, ◌+◌, ◌
 ghost use Rattle.arrayvec.specs.ArrayString.{array_string_len};
 ghost use Rattle.cube.specs.Words.{digit_of, rows_of};
 ghost use Rattle.cube.specs.Theorems.{bit_of_variable, Variable};
-ghost use Rattle.cube.specs.Calls.{widest};
+ghost use Rattle.cube.specs.Calls.{widest, refusal_number};
 ghost use Rattle.text.specs.Output.{in_decimal, character_of_variable, row_line, list_lines, totals_line, refused, list_text};
 ghost use Rattle.text.specs.Steps.{digit_number, most_refusal, most_variables, Printable};
 
 use arrayvec::ArrayString;
+use cube::{Refusal, Row};
 use itoa::Buffer;
+use lists::Rows;
 use spelling::MOST_CODE_PAIRS;
 
 // The longest output of `rows`: lines of 7 bytes, one for each pair of codes, and the last line with two numbers of 20 digits.
@@ -31,23 +33,23 @@ fn bit(n: usize, k: usize, byte: u8) -> usize
 }
 
 // The bit of variable xk that a row tests, if it tests one.
-pub fn tested(n: usize, k: usize, value: u8, care: u8) -> Option<bool>
+pub fn tested(n: usize, k: usize, row: Row) -> Option<bool>
     requires { (n ≤ most_variables) × Variable n k }
-    ensures { digit_number result ≡ digit_of (bit_of_variable n k value) (bit_of_variable n k care) }
+    ensures { digit_number result ≡ digit_of (bit_of_variable n k row.value) (bit_of_variable n k row.care) }
 {
-    if bit(n, k, care) == 0 {
+    if bit(n, k, row.care) == 0 {
         return None;
     }
-    Some(bit(n, k, value) == 1)
+    Some(bit(n, k, row.value) == 1)
 }
 
 // The character of variable xk in the line of a row.
-fn character(n: usize, k: usize, value: u8, care: u8) -> char
+fn character(n: usize, k: usize, row: Row) -> char
     requires { (n ≤ widest) × Variable n k }
-    ensures value { result ≡ character_of_variable n (record { value = value; care = care }) k }
+    ensures value { result ≡ character_of_variable n row k }
     ensures ascii { result < 128 }
 {
-    match tested(n, k, value, care) {
+    match tested(n, k, row) {
         None => '-',
         Some(false) => '0',
         Some(true) => '1',
@@ -55,24 +57,28 @@ fn character(n: usize, k: usize, value: u8, care: u8) -> char
 }
 
 // The line of a row, x1 first.
-fn row<const N: usize>(n: usize, value: u8, care: u8, out: &mut ArrayString<N>)
+fn line<const N: usize>(n: usize, row: Row, out: &mut ArrayString<N>)
     requires { (n ≤ widest) × (array_string_len out.old + (n + 1) ≤ N) }
-    ensures { out.new.bytes ≡ out.old.bytes ++ row_line n (record { value = value; care = care }) }
+    ensures { out.new.bytes ≡ out.old.bytes ++ row_line n row }
 {
     for i in 0..n {
-        out.push(character(n, i + 1, value, care));
+        out.push(character(n, i + 1, row));
     }
     out.push('\n');
 }
 
 // The lines of a list.
-fn rows<const N: usize>(n: usize, values: &[u8], cares: &[u8], out: &mut ArrayString<N>)
+fn lines<const N: usize>(n: usize, rows: Rows, out: &mut ArrayString<N>)
     requires width { n ≤ widest }
-    requires room { array_string_len out.old + length (list_lines n (rows_of values.now cares.now)) ≤ N }
-    ensures { out.new.bytes ≡ out.old.bytes ++ list_lines n (rows_of values.now cares.now) }
+    requires room { array_string_len out.old + length (list_lines n (rows_of rows.values.now rows.cares.now)) ≤ N }
+    ensures { out.new.bytes ≡ out.old.bytes ++ list_lines n (rows_of rows.entry.values.now rows.entry.cares.now) }
 {
-    for (value, care) in values.iter().zip(cares) {
-        row(n, *value, *care, out);
+    for (value, care) in rows.values.iter().zip(rows.cares) {
+        let row = Row {
+            value: *value,
+            care: *care,
+        };
+        line(n, row, out);
     }
 }
 
@@ -89,24 +95,25 @@ fn totals<const N: usize>(rows: usize, bits: usize, out: &mut ArrayString<N>)
 }
 
 // What is printed for a list: its lines and its two counts.
-pub fn list(n: usize, values: &[u8], cares: &[u8], bits: usize) -> ArrayString<MOST_OUTPUT>
-    requires { Printable n values.now cares.now }
-    ensures { result.bytes ≡ list_text n (rows_of values.now cares.now) (length values.now) bits }
+pub fn list(n: usize, rows: Rows, bits: usize) -> ArrayString<MOST_OUTPUT>
+    requires { Printable n (length rows.values.now) }
+    ensures { result.bytes ≡ list_text n (rows_of rows.entry.values.now rows.entry.cares.now)
+        (length rows.entry.values.now) bits }
 {
     let mut out = ArrayString::new();
-    rows(n, values, cares, &mut out);
-    totals(values.len(), bits, &mut out);
+    lines(n, rows, &mut out);
+    totals(rows.values.len(), bits, &mut out);
     out
 }
 
-// What is printed for a refusal with number k.
-pub fn refusal<const N: usize>(k: u8) -> ArrayString<N>
+// What is printed for a refusal.
+pub fn refusal<const N: usize>(refusal: Refusal) -> ArrayString<N>
     requires { most_refusal ≤ N }
-    ensures { result.bytes ≡ refused k }
+    ensures { result.bytes ≡ refused (refusal_number refusal) }
 {
     let mut out = ArrayString::new();
     out.push_str("refused ");
-    number(usize::from(k), &mut out);
+    number(usize::from(refusal.number()), &mut out);
     out.push('\n');
     out
 }

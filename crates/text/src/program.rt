@@ -1,20 +1,20 @@
 // A program on a table: it reads a text, and prints the list that it finds for the table, or the refusal.
 ghost use Rattle.std.specs.Prelude.{MatchResult};
+ghost use Rattle.cube.specs.Calls.{refusal_number};
 ghost use Rattle.text.specs.Output.{refused, ProgramOutput};
 ghost use Rattle.text.specs.Steps.{PrintsState};
 
 use crate::input::Reader;
 use crate::output;
 use arrayvec::ArrayString;
-
-// The number of the refusal of a text that is not in form.
-const NOT_IN_FORM: u8 = 9;
+use cube::Refusal;
 
 // A program whose output has at most N bytes.
 pub trait Program<const N: usize> {
-    ghost use Rattle.std.specs.Prelude.{ℕ, List, MatchResult, ◌≤◌};
+    ghost use Rattle.std.specs.Prelude.{ℕ, List, IfOk, ◌≡◌, ◌≤◌};
     ghost use Rattle.cube.specs.Words.{Cover};
-    ghost use Rattle.text.specs.Steps.{ShowsTable, RefusesTable, most_refusal};
+    ghost use Rattle.cube.specs.Calls.{first_of, table_conditions, refusal_of};
+    ghost use Rattle.text.specs.Steps.{ShowsTable, most_refusal};
 
     // The way in which it shows a list.
     ghost shown: { ℕ → Cover → List ℕ };
@@ -22,18 +22,19 @@ pub trait Program<const N: usize> {
     // The lists that it may show for a table.
     ghost May: { ℕ → List ℕ → Cover → Type 0 };
 
-    // What is shown for a table, or the number that it is refused with.
-    fn show(n: usize, cells: &[u8]) -> Result<ArrayString<N>, u8>
-        ensures { MatchResult result (λ text. ShowsTable shown May n cells.now text.bytes) (RefusesTable n cells.now) };
+    // What is shown for a table, or why it is refused.
+    fn show(n: usize, cells: &[u8]) -> Result<ArrayString<N>, Refusal>
+        ensures refusal { refusal_of result ≡ first_of (table_conditions n cells.now) }
+        ensures text { IfOk result (λ text. ShowsTable shown May n cells.now text.bytes) };
 
     ghost room: { most_refusal ≤ N };
 }
 
-// What is shown for what was read, or the number of the refusal.
-fn answer<P: Program<N>, const N: usize>(reader: &Reader) -> Result<ArrayString<N>, u8>
-    ensures { MatchResult result (λ text. PrintsState P.shown P.May reader.now text.bytes) (λ k. PrintsState P.shown P.May reader.now (refused k)) }
+// What is shown for what was read, or why it is refused.
+fn answer<P: Program<N>, const N: usize>(reader: &Reader) -> Result<ArrayString<N>, Refusal>
+    ensures { MatchResult result (λ text. PrintsState P.shown P.May reader.now text.bytes) (λ e. PrintsState P.shown P.May reader.now (refused (refusal_number e))) }
 {
-    let text = reader.text().ok_or(NOT_IN_FORM)?;
+    let text = reader.text()?;
     P::show(text.width, text.cells)
 }
 
@@ -43,7 +44,7 @@ pub fn reply<P: Program<N>, const N: usize>(reader: &Reader) -> ArrayString<N>
 {
     match answer::<P, N>(reader) {
         Ok(text) => text,
-        Err(k) => output::refusal(k),
+        Err(refusal) => output::refusal(refusal),
     }
 }
 

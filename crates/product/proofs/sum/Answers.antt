@@ -53,7 +53,7 @@ module _ (n : ℕ) (r : Row) (all : List ℕ) where
 
 pub loop-i-init : goal.loop-i-init
 loop-i-init g c =
-    let r : Row = record { value = c.args.value; care = c.args.care } in
+    let r : Row = c.args.row in
     let whole : c.args.n - 0 ≡ c.args.n = omega arith in (
       lit< tt,
       ap (λ (m : ℕ). c.args.out.now.bytes ++ rest_text (code "(") (literals_from c.args.n r m 1)) whole
@@ -64,19 +64,19 @@ pub push-requires : goal.push-requires
 push-requires g c =
     let a = c.args in
     let i = c.loop-i in
-    let fits = room a.n (record { value = a.value; care = a.care }) _ i.i i.before _ i.invariant.1 c.loop-i-test.true _ c.tested.ensures _ c.in-Some.is in
-    (search rules, omega (arith, fits, length-append a.out.now.bytes (sum_text (row_sum a.n (record { value = a.value; care = a.care }))), ap length (encode_ascii i.before i.invariant.0), c.requires.room))
+    let fits = room a.n a.row _ i.i i.before _ i.invariant.1 c.loop-i-test.true _ c.tested.ensures _ c.in-Some.is in
+    (search rules, omega (arith, fits, length-append a.out.now.bytes (sum_text (row_sum a.n a.row)), ap length (encode_ascii i.before i.invariant.0), c.requires.room))
 
 pub literal-requires : goal.literal-requires
 literal-requires g c =
     let a = c.args in
     let i = c.loop-i in
-    let fits = room a.n (record { value = a.value; care = a.care }) _ i.i i.before _ i.invariant.1 c.loop-i-test.true _ c.tested.ensures _ c.in-Some.is in (
+    let fits = room a.n a.row _ i.i i.before _ i.invariant.1 c.loop-i-test.true _ c.tested.ensures _ c.in-Some.is in (
       search rules,
       omega (
         arith,
         fits,
-        length-append a.out.now.bytes (sum_text (row_sum a.n (record { value = a.value; care = a.care }))),
+        length-append a.out.now.bytes (sum_text (row_sum a.n a.row)),
         ap length (c.push.ensures.ascii i.invariant.0),
         length-append i.out.bytes (i.before ∷ []),
         c.requires.room,
@@ -86,7 +86,7 @@ literal-requires g c =
 pub loop-i-preserved : goal.loop-i-preserved
 loop-i-preserved g c =
     let n = c.args.n in
-    let r : Row = record { value = c.args.value; care = c.args.care } in
+    let r : Row = c.args.row in
     let i = c.loop-i in
     elim c.match-tested.branch [
       | in-Some w ↦ (
@@ -105,12 +105,12 @@ pub push-requires-2 : goal.push-requires-2
 push-requires-2 g c =
     let a = c.args in
     let i = c.loop-i in
-    let fits = last_room a.n (record { value = a.value; care = a.care }) _ i.i i.before _ i.invariant.1 c.loop-i-test.false in
-    (search rules, omega (arith, fits, length-append a.out.now.bytes (sum_text (row_sum a.n (record { value = a.value; care = a.care }))), ap length (encode_ascii c.last.result c.last.ensures.ascii), c.requires.room))
+    let fits = last_room a.n a.row _ i.i i.before _ i.invariant.1 c.loop-i-test.false in
+    (search rules, omega (arith, fits, length-append a.out.now.bytes (sum_text (row_sum a.n a.row)), ap length (encode_ascii c.last.result c.last.ensures.ascii), c.requires.room))
 
 pub returns : goal.returns
 returns g c =
     let a = c.args in
     let i = c.loop-i in
     c.push-2.ensures.ascii c.last.ensures.ascii ∙ ap (λ (b : ℕ). i.out.bytes ++ b ∷ []) c.last.ensures.value
-    ∙ ends a.n (record { value = a.value; care = a.care }) _ i.i i.before _ i.invariant.1 c.loop-i-test.false
+    ∙ ends a.n a.row _ i.i i.before _ i.invariant.1 c.loop-i-test.false

@@ -6,5 +6,5 @@ use Rattle.product.proofs.sum.Given as goal
 
 abbrev pub invariant-loop-i : goal.invariant-loop-i
 invariant-loop-i g l =
-    (l.before < 128) × (l.out.bytes ++ rest_text l.before (literals_from l.n (record { value = l.value; care = l.care }) (l.n - l.i) (l.i + 1))
-    ≡ l.initial.out.bytes ++ sum_text (row_sum l.n (record { value = l.value; care = l.care })))
+    (l.before < 128) × (l.out.bytes ++ rest_text l.before (literals_from l.n l.row (l.n - l.i) (l.i + 1))
+    ≡ l.initial.out.bytes ++ sum_text (row_sum l.n l.row))

@@ -29,11 +29,11 @@ module _ (n : ℕ) (vs ws : List ℕ) where
       go (v ∷ vs) (w ∷ ws) e l = refl
 
 pub push_str-requires : goal.push_str-requires
-push_str-requires g c = (search rules, omega (arith, ap length (none c.args.n c.args.values.now c.args.cares.now (grind (arith, nat_tests))), c.requires.room))
+push_str-requires g c = (search rules, omega (arith, ap length (none c.args.n c.args.rows.values.now c.args.rows.cares.now (grind (arith, nat_tests))), c.requires.room))
 
 pub returns-then-is_empty : goal.returns-then-is_empty
 returns-then-is_empty g c =
-    c.push_str.ensures.bytes ∙ ap (λ (l : List ℕ). c.args.out.now.bytes ++ l) (none c.args.n c.args.values.now c.args.cares.now (grind (arith, nat_tests)))
+    c.push_str.ensures.bytes ∙ ap (λ (l : List ℕ). c.args.out.now.bytes ++ l) (none c.args.n c.args.rows.values.now c.args.rows.cares.now (grind (arith, nat_tests)))
 
 pub loop-value-init : goal.loop-value-init
 loop-value-init g c = search rules
@@ -42,7 +42,7 @@ pub sum-requires : goal.sum-requires
 sum-requires g c =
     let n = c.args.n in
     let room = next_room (by_row n) _ _ c.in-Some.ensures.steps.0 c.in-Some.ensures.steps.1 c.loop-value.invariant in
-    let all = some n c.args.values.now c.args.cares.now (grind (arith, nat_tests)) c.requires.same in (
+    let all = some n c.args.rows.values.now c.args.rows.cares.now (grind (arith, nat_tests)) c.args.rows.paired in (
       search rules,
       (
         c.requires.width,
@@ -50,7 +50,7 @@ sum-requires g c =
           arith,
           room,
           ap length all,
-          length-append c.args.out.now.bytes (sums_text (product_of n (rows_of c.args.values.now c.args.cares.now))),
+          length-append c.args.out.now.bytes (sums_text (product_of n (rows_of c.args.rows.values.now c.args.rows.cares.now))),
           c.requires.room,
         ),
       ),
@@ -64,4 +64,4 @@ pub returns : goal.returns
 returns g c =
     none_left (by_row c.args.n) _ _ _ _ (either_empty_from_Zip c.loop-value.value-iterator c.next.new.self _ c.in-None.is c.next.ensures.steps)
     c.loop-value.invariant
-    ∙ ap (λ (l : List ℕ). c.args.out.now.bytes ++ l) (sym (some c.args.n c.args.values.now c.args.cares.now (grind (arith, nat_tests)) c.requires.same))
+    ∙ ap (λ (l : List ℕ). c.args.out.now.bytes ++ l) (sym (some c.args.n c.args.rows.values.now c.args.rows.cares.now (grind (arith, nat_tests)) c.args.rows.paired))

@@ -9,4 +9,4 @@ use Rattle.product.proofs.sums.Given as goal
 abbrev pub invariant-loop-value : goal.invariant-loop-value
 invariant-loop-value g l =
     l.out.bytes ++ sums_text (product_of l.n (rows_of (iter_rest (zip_first l.value-iterator)) (iter_rest (zip_second l.value-iterator))))
-    ≡ l.initial.out.bytes ++ sums_text (product_of l.n (rows_of l.values l.cares))
+    ≡ l.initial.out.bytes ++ sums_text (product_of l.n (rows_of l.rows.values.now l.rows.cares.now))

@@ -19,8 +19,8 @@ module _ (k j : ℕ) (l : k < 2 ^ 8) (e : j ≡ k) (out : List ℕ) (none : out 
         length-append (bytes "refused ") (in_decimal k),
       )
 
-pub number-requires : goal.number-requires
-number-requires g c = (search rules, omega (arith, room _ _ (omega arith) c.from.ensures _ c.new-out.ensures _ c.push_str.ensures.bytes, c.requires))
+pub number-requires-2 : goal.number-requires-2
+number-requires-2 g c = (search rules, omega (arith, room _ _ (omega arith) c.from.ensures _ c.new-out.ensures _ c.push_str.ensures.bytes, c.requires))
 
 pub push-requires : goal.push-requires
 push-requires g c = (
@@ -28,7 +28,7 @@ push-requires g c = (
   omega (
     arith,
     room _ _ (omega arith) c.from.ensures _ c.new-out.ensures _ c.push_str.ensures.bytes,
-    ap length c.number.ensures,
+    ap length c.number-2.ensures,
     length-append c.push_str.new.self.bytes (in_decimal c.from.result),
     ap length (encode_ascii line_feed (lit< tt)),
     c.requires,
