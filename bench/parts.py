@@ -53,7 +53,7 @@ ZERO = """    let low = tighten_by(dual::from_zero, matrix, live, undecided, lim
         return low;
     }
 """
-IMPROVE = "    ascent.improve(problem);\n"
+IMPROVE = "    ascent.improve();\n"
 NEXT = """let other = match branching::branching_row(&without) {
         Some(next) => choose(&without, limit_with(&incumbent.cover, limit), next),
         None => return incumbent,

@@ -74,16 +74,6 @@ impl<'a> Problem<'a> {
         }
         prices
     }
-
-    // What each live row has left once it pays the prices of its undecided columns.
-    fn slacks(&self, prices: &Prices) -> Slacks {
-        let mut slacks = [0u32; rows::LIMIT];
-        for i in self.covering.live.iter(self.covering.matrix.rows()) {
-            let paid = crate::worth(prices, self.columns_of(i));
-            slacks[i] = u64::from(self.capacity(i)).saturating_sub(paid) as u32;
-        }
-        slacks
-    }
 }
 
 // The level of a column with n rows.
@@ -109,6 +99,15 @@ struct Ascent<'a> {
 }
 
 impl<'a> Ascent<'a> {
+    // Sets the slack of each live row: what it has left once it pays the prices of its undecided columns.
+    fn set_slacks(&mut self) {
+        let problem = self.problem;
+        for i in problem.covering.live.iter(problem.covering.matrix.rows()) {
+            let paid = crate::worth(&self.prices, problem.columns_of(i));
+            self.slacks[i] = u64::from(problem.capacity(i)).saturating_sub(paid) as u32;
+        }
+    }
+
     // The least slack of the rows of the column c.
     fn least_slack(&self, c: usize) -> u32
         requires { c < column_limit }
@@ -201,12 +200,12 @@ impl<'a> Ascent<'a> {
 
 // Prices by an ascent from those given, and a pass that improves them.
 fn ascended<'a>(problem: &'a Problem<'a>, prices: Prices) -> Prices {
-    let slacks = problem.slacks(&prices);
     let mut ascent = Ascent {
         problem,
         prices,
-        slacks,
+        slacks: [0; rows::LIMIT],
     };
+    ascent.set_slacks();
     ascent.ascend();
     ascent.improve();
     ascent.prices

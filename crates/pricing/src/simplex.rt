@@ -238,15 +238,6 @@ fn factor_of(marked: bool, n: u16) -> f32
     if marked { 4.0 * factor } else { factor }
 }
 
-// A gain by its factor, or 0 if it does not count.
-fn rated(gain: f32, factor: f32) -> f32 {
-    if LEAST_GAIN < gain {
-        gain * factor
-    } else {
-        0.0
-    }
-}
-
 // A right side, or 0 if it is below.
 // Not `max`, which takes 0 for what is no number.
 fn at_least_zero(side: f32) -> f32 {
@@ -338,9 +329,9 @@ impl<'a> Tableau<'a> {
         let mut highest = 0.0;
         let cells = &*self.cells;
         for (q, (variable, gain)) in self.places.iter().zip(&cells[self.rows.len()]).enumerate() {
-            let gain = rated(*gain, variable.factor);
-            if highest < gain {
-                highest = gain;
+            let rated = *gain * variable.factor;
+            if LEAST_GAIN < *gain && highest < rated {
+                highest = rated;
                 best = Some(q);
             }
         }
