@@ -25,7 +25,7 @@ use Rattle.chart_arrays.proofs.Columns.{has_word}
 use Rattle.plan.specs.Plan.{ascends_from, ascending}
 use Rattle.plan.specs.Steps.{row_weight, words_of, weights_of, cubes_of, rows_of_cubes, Lightest, Cubes, Chosen, picked_cubes}
 use Rattle.search.specs.Search.{Coverable}
-use Rattle.search.specs.declared.Solution.{Solution}
+use Rattle.incumbent.specs.declared.Cover.{Cover as PickedRows}
 use Rattle.plan.proofs.Selections.{ChartOf, cube_at, list_of, list_weight, minimum_list, coverable, cubes_below, ascending_list}
 
 -- the wanted codes
@@ -74,7 +74,7 @@ field_at n t f i l =
     get_or-map f (chart_of n t) i (chart_row n t 0) 0 (omega (arith, length-map (serving_primes_of n t) (chart_row n t)))
     ∙ ap f (get_or-map (chart_row n t) (serving_primes_of n t) i 0 (chart_row n t 0) l)
 
-module _ (n : ℕ) (t : List ℕ) (width : n ≤ widest) (found : Solution) (light : Lightest (chart_of n t) (wanted_word n t) found) where
+module _ (n : ℕ) (t : List ℕ) where
   abbrev rows : List ChartRow
   rows = chart_of n t
 
@@ -99,70 +99,76 @@ module _ (n : ℕ) (t : List ℕ) (width : n ≤ widest) (found : Solution) (lig
       let r = coverable n t words weights of_chart c d.0 d.1 in
       (r.0, omega (arith, r.1, words_are), r.2)
 
-  L : List ℕ
-  L = those (length rows) (member found.picked)
+  module _ (width : n ≤ widest) (found : PickedRows) (light : Lightest (chart_of n t) (wanted_word n t) found) where
+    L : List ℕ
+    L = those (length rows) (member found.rows)
 
-  minimum_selection : LeastCover (CoversColumn words) (weight_of weights) (λ i. i < length (serving_primes_of n t)) (In (wanted_word n t)) L found.weight
-  unfolding L
-  minimum_selection =
-      subst₂ (λ (k j : ℕ). LeastCover (CoversColumn words) (weight_of weights) (λ i. i < k) (In (wanted_word n t)) (those j (member found.picked)) found.weight)
-      words_are (words_are ∙ sym rows_are) (light each_column)
+    minimum_selection : LeastCover (CoversColumn words) (weight_of weights) (λ i. i < length (serving_primes_of n t)) (In (wanted_word n t)) L found.weight
+    unfolding L
+    minimum_selection =
+        subst₂ (λ (k j : ℕ). LeastCover (CoversColumn words) (weight_of weights) (λ i. i < k) (In (wanted_word n t)) (those j (member found.rows)) found.weight)
+        words_are (words_are ∙ sym rows_are) light
 
-  list : Cover
-  list = list_of n t words weights of_chart L
+    list : Cover
+    list = list_of n t words weights of_chart L
 
-  list_minimum : Minimum n t list
-  unfolding list
-  list_minimum =
-      minimum_list n t words weights of_chart (small_lists n width) (wanted_word n t) found.weight (wanted_columns n t)
-      (columns_wanted n t) L minimum_selection
+    list_minimum : Minimum n t list
+    unfolding list
+    list_minimum =
+        minimum_list n t words weights of_chart (small_lists n width) (wanted_word n t) found.weight (wanted_columns n t)
+        (columns_wanted n t) L minimum_selection
 
-  count_is : length list ≡ length (those (length rows) (member found.picked))
-  unfolding list L
-  count_is = length-map (map (cube_at n t words weights of_chart) L) (row_of n) ∙ length-map L (cube_at n t words weights of_chart)
+    count_is : length list ≡ length (those (length rows) (member found.rows))
+    unfolding list L
+    count_is = length-map (map (cube_at n t words weights of_chart) L) (row_of n) ∙ length-map L (cube_at n t words weights of_chart)
 
-  -- the picked rows are no more than the places of a list
-  picked_most : length (those (length rows) (member found.picked)) ≤ 2 ^ (widest - 1)
-  picked_most = omega (arith, count_is, minimum_rows n t list list_minimum, code_pairs_most n width)
+    -- the picked rows are no more than the places of a list
+    picked_most : length (those (length rows) (member found.rows)) ≤ 2 ^ (widest - 1)
+    picked_most = omega (arith, count_is, minimum_rows n t list list_minimum, code_pairs_most n width)
 
-  weight_is : found.weight ≡ row_weight * length list + cover_literals n list
-  unfolding list
-  weight_is = sym minimum_selection.weighs ∙ list_weight n t words weights of_chart L minimum_selection.within
+    weight_is : found.weight ≡ row_weight * length list + cover_literals n list
+    unfolding list
+    weight_is = sym minimum_selection.weighs ∙ list_weight n t words weights of_chart L minimum_selection.within
 
-  weight_most : row_weight * length (picked_cubes found.picked rows) ≤ found.weight
-  weight_most = omega (arith, count_is, weight_is, picked_count found.picked rows)
+    weight_most : row_weight * length (picked_cubes found.rows rows) ≤ found.weight
+    weight_most = omega (arith, count_is, weight_is, picked_count found.rows rows)
 
-  picked_are : picked_cubes found.picked rows ≡ map (cube_at n t words weights of_chart) L
-  unfolding L
-  picked_are =
-      map_same (λ i. i < length (serving_primes_of n t)) (λ (i : ℕ). get_or (cubes_of rows) i 0) (cube_at n t words weights of_chart) (field_at n t (λ r. r.cube))
-      (those (length rows) (member found.picked)) minimum_selection.within
+    picked_are : picked_cubes found.rows rows ≡ map (cube_at n t words weights of_chart) L
+    unfolding L
+    picked_are =
+        map_same (λ i. i < length (serving_primes_of n t)) (λ (i : ℕ). get_or (cubes_of rows) i 0) (cube_at n t words weights of_chart) (field_at n t (λ r. r.cube))
+        (those (length rows) (member found.rows)) minimum_selection.within
 
-  picked_chosen : Chosen n t (picked_cubes found.picked rows) (found.weight - row_weight * length (picked_cubes found.picked rows))
-  unfolding list L
-  picked_chosen = record {
-    below = subst⁻¹ (Cubes n) picked_are (cubes_below n t words weights of_chart L minimum_selection.within);
-    minimum = subst⁻¹ (λ (qs : List ℕ). Minimum n t (rows_of_cubes n qs)) picked_are list_minimum;
-    is_ascending =
-        subst⁻¹ (λ (qs : List ℕ). T (ascending qs)) picked_are
-        (ascending_list n t words weights of_chart L (those-ascending (length rows) (member found.picked)) minimum_selection.within);
-    counts =
-        omega (arith, weight_is, count_is, picked_count found.picked rows)
-        ∙ ap (λ (qs : List ℕ). cover_literals n (rows_of_cubes n qs)) (sym picked_are);
-  }
+    picked_chosen : Chosen n t (picked_cubes found.rows rows) (found.weight - row_weight * length (picked_cubes found.rows rows))
+    unfolding list L
+    picked_chosen = record {
+      below = subst⁻¹ (Cubes n) picked_are (cubes_below n t words weights of_chart L minimum_selection.within);
+      minimum = subst⁻¹ (λ (qs : List ℕ). Minimum n t (rows_of_cubes n qs)) picked_are list_minimum;
+      is_ascending =
+          subst⁻¹ (λ (qs : List ℕ). T (ascending qs)) picked_are
+          (ascending_list n t words weights of_chart L (those-ascending (length rows) (member found.rows)) minimum_selection.within);
+      counts =
+          omega (arith, weight_is, count_is, picked_count found.rows rows)
+          ∙ ap (λ (qs : List ℕ). cover_literals n (rows_of_cubes n qs)) (sym picked_are);
+    }
 
--- the same as code has it: of rows that are the chart, and of columns that are the wanted codes
+-- ---- as code has it: of rows that are the chart, and of columns that are the wanted codes
+
+-- each wanted code has a row
+pub chart_covers : (n : ℕ) (t : List ℕ) (rows : List ChartRow) (u : ℕ) → rows ≡ chart_of n t → u ≡ wanted_word n t → Coverable (words_of rows) u
+chart_covers n t rows u chart u-is = rw (chart, u-is) (each_column n t)
+
 module _ (n : ℕ) (t : List ℕ) (width : n ≤ widest) (rows : List ChartRow) (chart : rows ≡ chart_of n t) (u : ℕ) (u-is : u ≡ wanted_word n t)
-    (found : Solution) (light : Lightest rows u found) where
+    (found : PickedRows) (light : Lightest rows u found) where
   on_chart : Lightest (chart_of n t) (wanted_word n t) found
   on_chart = subst₂ (λ (r : List ChartRow) (x : ℕ). Lightest r x found) chart u-is light
 
   -- the picked rows are no more than the places of a list
-  pub room : length (those (length rows) (member found.picked)) ≤ 2 ^ (widest - 1)
+  pub room : length (those (length rows) (member found.rows)) ≤ 2 ^ (widest - 1)
   room = rw chart (picked_most n t width found on_chart)
 
-  pub weighs : row_weight * length (picked_cubes found.picked rows) ≤ found.weight
+  pub weighs : row_weight * length (picked_cubes found.rows rows) ≤ found.weight
   weighs = rw chart (weight_most n t width found on_chart)
 
-  pub chosen : Chosen n t (picked_cubes found.picked rows) (found.weight - row_weight * length (picked_cubes found.picked rows))
+  pub chosen : Chosen n t (picked_cubes found.rows rows) (found.weight - row_weight * length (picked_cubes found.rows rows))
   chosen = rw chart (picked_chosen n t width found on_chart)

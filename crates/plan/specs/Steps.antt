@@ -7,8 +7,8 @@ use Rattle.cube.specs.Calls.{widest}
 use Rattle.cube.specs.Minimum.{Minimum}
 use Rattle.matrix.specs.Sets.{ColumnSet, RowSet, member}
 use Rattle.chart_arrays.specs.declared.ChartRow.{ChartRow}
-use Rattle.search.specs.Search.{Coverable, MinimumCover}
-use Rattle.search.specs.declared.Solution.{Solution}
+use Rattle.incumbent.specs.declared.Cover.{Cover as PickedRows}
+use Rattle.search.specs.Search.{MinimumCover}
 use Rattle.plan.specs.Plan.{ascending}
 
 -- a row's weight: rows count first, then literals
@@ -25,9 +25,9 @@ words_of rows = map (λ (r : ChartRow). r.word) rows
 abbrev pub weights_of : List ChartRow → List ℕ
 weights_of rows = map (λ (r : ChartRow). row_weight + r.literals) rows
 
--- a minimum cover of the columns by these rows, where each column has a row
-abbrev pub Lightest : List ChartRow → ColumnSet → Solution → Type 0
-Lightest rows columns a = Coverable (words_of rows) columns → MinimumCover (words_of rows) (weights_of rows) columns a.weight a.picked
+-- a minimum cover of the columns by these rows
+abbrev pub Lightest : List ChartRow → ColumnSet → PickedRows → Type 0
+Lightest rows columns a = MinimumCover (words_of rows) (weights_of rows) columns a.weight a.rows
 
 -- the rows of some cubes
 abbrev pub rows_of_cubes : ℕ → List ℕ → Cover

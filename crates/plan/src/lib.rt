@@ -12,13 +12,14 @@ ghost use Rattle.cube.specs.Words.{value_of, care_of};
 ghost use Rattle.cube.specs.Calls.{widest, refusal_of, written};
 ghost use Rattle.matrix.specs.Sets.{row_limit, member};
 ghost use Rattle.plan.specs.Plan.{plan_places, plan_refuses, Plans};
-ghost use Rattle.plan.specs.Steps.{Lightest, Chosen, picked_cubes, Spellable};
+ghost use Rattle.plan.specs.Steps.{words_of, Lightest, Chosen, picked_cubes, Spellable};
+ghost use Rattle.search.specs.Search.{Coverable};
 
 use arrayvec::ArrayVec;
 use chart_arrays::ChartRow;
 use cube::Refusal;
-use matrix::{columns, rows};
-use search::Solution;
+use incumbent::Cover;
+use matrix::{Matrix, columns, rows};
 use spelling::{MOST_CODE_PAIRS, MOST_CUBES};
 use tables::Table;
 
@@ -40,8 +41,9 @@ struct CubeList {
 }
 
 // The lightest selection of chart rows that covers the columns.
-fn lightest(rows: &[ChartRow], columns: columns::Set) -> Solution
-    requires { length rows.now ≤ 3 ^ widest }
+fn lightest(rows: &[ChartRow], columns: columns::Set) -> Cover
+    requires few { length rows.now ≤ 3 ^ widest }
+    requires coverable { Coverable (words_of rows.now) columns }
     ensures { Lightest rows.now columns result }
 {
     let mut words: ArrayVec<columns::Set, MOST_CUBES> = ArrayVec::new();
@@ -50,7 +52,8 @@ fn lightest(rows: &[ChartRow], columns: columns::Set) -> Solution
         words.push(row.word);
         weights.push(ROW_WEIGHT + u32::from(row.literals));
     }
-    search::minimum_cover(words.as_slice(), weights.as_slice(), columns)
+    let matrix = Matrix::new(words.as_slice(), weights.as_slice());
+    search::minimum_cover(matrix, columns).cover.unwrap()
 }
 
 // The cubes of the picked rows, ascending.
@@ -60,10 +63,8 @@ fn picked_cubes(picked: &rows::Set, rows: &[ChartRow]) -> ArrayVec<u16, MOST_COD
     ensures { result.items ≡ picked_cubes picked.now rows.now }
 {
     let mut cubes = ArrayVec::new();
-    for (i, row) in rows.iter().enumerate() {
-        if rows::has(picked, i) {
-            cubes.push(row.cube);
-        }
+    for i in picked.iter(rows.len()) {
+        cubes.push(rows[i].cube);
     }
     cubes
 }
@@ -75,7 +76,7 @@ fn shortest(table: Table) -> CubeList
     let chart = chart_arrays::build(table);
     let rows = chart.as_slice();
     let found = lightest(rows, chart_arrays::wanted(table));
-    let cubes = picked_cubes(&found.picked, rows);
+    let cubes = picked_cubes(&found.rows, rows);
     let bits = found.weight as usize - ROW_WEIGHT as usize * cubes.len();
     CubeList { cubes, bits }
 }

@@ -1,7 +1,11 @@
 -- `plan::shortest` meets its contract: the picked rows of the chart are those of a shortest list. Assumes nothing.
 use Rattle.std.proofs.Common.{◌∙◌}
-use Rattle.plan.proofs.Choice.{room, weighs, chosen}
+use Rattle.plan.proofs.Choice.{chart_covers, room, weighs, chosen}
 use Rattle.plan.proofs.shortest.Goals as goal
+
+pub lightest-found-requires-clause-coverable : goal.lightest-found-requires-clause-coverable
+lightest-found-requires-clause-coverable c =
+    chart_covers c.args.table.width c.args.table.cells.now _ _ (c.as_slice-rows.ensures.value ∙ c.build-chart.ensures) c.wanted.ensures
 
 pub picked_cubes-cubes-requires-clause-room : goal.picked_cubes-cubes-requires-clause-room
 picked_cubes-cubes-requires-clause-room c =
