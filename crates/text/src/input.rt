@@ -101,8 +101,8 @@ pub struct Text<'a> {
 pub struct Reader {
     // None behind a byte that no text in form has there.
     next: Option<Next>,
-    // None before the run.
-    cells: ArrayVec<u8, MOST_CELLS>,
+    // No cell before the run.
+    cells: Cells,
 }
 
 impl Model for Reader {
