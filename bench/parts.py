@@ -21,20 +21,22 @@ TABLES = "tests/tables/hard6.txt"
 OUT = "target/bench/parts"
 TIGHTEN = "bound/src/lib.rt"
 CERTIFICATE = "bound/src/certificate.rt"
-DUAL = "bound/src/dual.rt"
+DUAL = "pricing/src/dual.rt"
 SEARCH = "search/src/lib.rt"
 BRANCHING = "search/src/branching.rt"
 
 # A program that solves charts and writes the total of the nodes, the most for one chart, and the sum of the weights.
 SOLVING = """#![tactic(auto)]
 
-fn solve(words: &[u64], weights: &[u32], columns: u64, sums: &mut [u64; 3]) {
-    let answer = search::minimum_cover(words, weights, columns);
+use matrix::{Matrix, columns};
+
+fn solve(words: &[columns::Set], weights: &[u32], columns: columns::Set, sums: &mut [u64; 3]) {
+    let answer = search::minimum_cover(Matrix::new(words, weights), columns);
     sums[0] += answer.nodes;
     if sums[1] < answer.nodes {
         sums[1] = answer.nodes;
     }
-    sums[2] += answer.weight;
+    sums[2] += answer.cover.map_or(0, |cover| cover.weight);
 }
 
 fn main(rt: HostRuntime) {
@@ -43,44 +45,38 @@ fn main(rt: HostRuntime) {
     let _ = println!(rt; "{nodes} {most} {weights}");
 }
 """
-SOLVING_DEPS = "parts: numbers covering matrix reduction bound search\n"
+SOLVING_DEPS = "parts: numbers covering matrix reduction pricing bound incumbent search arrayvec\n"
 
-SHARE = """    let rest = first.live;
-    let share = dual::from_shares(words, weights, &rest, undecided);
-    certificate::certified(words, weights, rest, undecided, limit, &share)
-"""
-ZERO = """    let ascent = dual::from_zero(words, weights, &live, undecided);
-    let first = certificate::certified(words, weights, live, undecided, limit, &ascent);
-    if limit <= first.low {
-        return first;
+SHARE = "    tighten_by(dual::from_shares, matrix, live, undecided, limit)\n"
+ZERO = """    let low = tighten_by(dual::from_zero, matrix, live, undecided, limit);
+    if limit <= low {
+        return low;
     }
-    let rest = first.live;
 """
-IMPROVE = "    improve(words, &by_column, &mut prices, &mut slack, undecided);\n"
-NEXT = """let next = branching::branching_row(words, weights, &rest, undecided);
-    if next == matrix::row_count(words) {
-        return incumbent;
-    }
-    let other = choose(words, weights, rest, undecided, incumbent.weight, next);"""
-NO_SHARE = [(TIGHTEN, SHARE, "    first\n")]
+IMPROVE = "    ascent.improve();\n"
+NEXT = """let other = match branching::branching_row(&without) {
+        Some(next) => choose(&without, limit_with(&incumbent.cover, limit), next),
+        None => return incumbent,
+    };"""
+NO_SHARE = [(TIGHTEN, SHARE, "    low\n")]
 NO_IMPROVEMENT = [(DUAL, IMPROVE, "")]
-NO_ROUNDING = [(CERTIFICATE, "rounded(words, weights, &live, total);", "total;")]
-NO_FIXING = [(CERTIFICATE, "fix_rows(words, weights, live, undecided, limit, prices, total);", "live;")]
+NO_ROUNDING = [(CERTIFICATE, "rounded(&self.problem, self.total)", "self.total")]
+NO_FIXING = [(CERTIFICATE, "        *live = solution.kept();\n", "")]
 
 VARIANTS = {
     "all": [],
     "no-share": NO_SHARE,
-    "no-zero": [(TIGHTEN, ZERO, "    let rest = live;\n")],
+    "no-zero": [(TIGHTEN, ZERO, "")],
     "no-improvement": NO_IMPROVEMENT,
     "two-improvements": [(DUAL, IMPROVE, IMPROVE + IMPROVE)],
     "no-rounding": NO_ROUNDING,
     "no-fixing": NO_FIXING,
     "no-rounding-no-fixing": NO_ROUNDING + NO_FIXING,
     "zero-alone": NO_SHARE + NO_IMPROVEMENT + NO_ROUNDING + NO_FIXING,
-    "no-bound": [(TIGHTEN, "    let ascent", "    if 0 < limit {\n        return certificate::Bounded { low: 0, live };\n    }\n    let ascent")],
-    "second-branch-not-reduced": [(SEARCH, "let other = reduce(words, weights, rest, undecided, incumbent.weight);", NEXT)],
-    "no-greedy": [(SEARCH, "all, columns, first.weight);", "all, columns, 4398046511104);")],
-    "fewest-rows": [(BRANCHING, "denser(brings, counts[c], brought, counts[best])", "counts[c] < counts[best]")],
+    "no-bound": [(TIGHTEN, "    let low =", "    if 0 < limit {\n        return 0;\n    }\n    let low =")],
+    "second-branch-not-reduced": [(SEARCH, "let other = reduce(&without, limit_with(&incumbent.cover, limit));", NEXT)],
+    "no-greedy": [(SEARCH, "limit_with(&first.cover, FIRST_LIMIT)", "FIRST_LIMIT")],
+    "fewest-rows": [(BRANCHING, "seen[c].is_denser(&seen[best])", "seen[c].rows < seen[best].rows")],
 }
 
 
@@ -96,10 +92,11 @@ def program(problems):
     """The text of the program that solves these charts."""
     calls = ""
     for number, (columns, rows) in enumerate(problems):
-        words, weights = (", ".join(str(row[place]) for row in rows) for place in (0, 1))
-        calls += "    let words_%d: [u64; %d] = [%s];\n" % (number, len(rows), words)
+        words = ", ".join("columns::Set::from(%d)" % row[0] for row in rows)
+        weights = ", ".join(str(row[1]) for row in rows)
+        calls += "    let words_%d: [columns::Set; %d] = [%s];\n" % (number, len(rows), words)
         calls += "    let weights_%d: [u32; %d] = [%s];\n" % (number, len(rows), weights)
-        calls += "    solve(&words_%d, &weights_%d, %d, &mut sums);\n" % (number, number, columns)
+        calls += "    solve(&words_%d, &weights_%d, columns::Set::from(%d), &mut sums);\n" % (number, number, columns)
     return SOLVING % calls
 
 

@@ -8,7 +8,7 @@ use lib.Dec.{eqb, ltb}
 use borrow.Author.Tests.{lt-ltb, le-ltb, eq-eqb, ne_eqb}
 use Rattle.numbers.proofs.Bools.{lt_or_le}
 use Rattle.cube.specs.Minimum.{NoBetter}
-use Rattle.plan.specs.Plan.{Totals}
+use Rattle.plan.specs.declared.Totals.{Totals}
 use Rattle.better.specs.Better.{is_better}
 use Rattle.better.specs.Theorems.{Worse}
 

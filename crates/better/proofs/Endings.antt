@@ -1,29 +1,31 @@
 -- How the call ends. Both lists stand in arrays of their own, with their totals, and where the lent arrays are not refused the better one is copied into
 -- them. Assumes nothing.
-use mathlib.Core.Path.{◌≡◌, refl, sym, ap, ap₂, ◌∙◌}
+use mathlib.Core.Path.{◌≡◌, sym, ap, ap₂, ◌∙◌}
 use mathlib.Core.Bool.{Bool, true, false, cond, ◌||◌}
 use mathlib.Core.List.{List, [], ◌∷◌}
-use Prim.Native.Nat.{ℕ, zero, suc, ◌-◌, ◌^◌, ◌≤◌}
+use Prim.Native.Nat.{ℕ, ◌-◌, ◌^◌, ◌≤◌}
 use native.Mathlib.Omega.{arith}
 use lib.ListN.{length, length-map, take}
 use Rattle.numbers.proofs.Fronts.{front_is}
 use Rattle.cube.specs.Words.{Cover}
-use Rattle.cube.specs.Calls.{widest, short, when, table_conditions, gives, answered, written}
-use Rattle.cube.proofs.Calls.{none_in_front}
-use Rattle.plan.specs.Plan.{plan_places, plan_refuses, Totals, totals_of, values_of, cares_of, Plans}
+use Rattle.std.specs.Prelude.{Ok, Err}
+use Rattle.cube.specs.Calls.{widest, short, when, table_conditions, refusal_number, gives, answered, written}
+use Rattle.cube.specs.declared.Refusal.{Refusal}
+use Rattle.cube.proofs.Calls.{none_in_front, refusal_from, refuses_answered, listed_refused}
+use Rattle.plan.specs.Plan.{plan_places, plan_refuses, totals_of, values_of, cares_of, Plans}
 use Rattle.plan.specs.Theorems.{MayWrite, Held}
-use Rattle.plan.specs.declared.Planned.{Planned}
-use Rattle.plan.specs.declared.Planned.TheVariants as planned
+use Rattle.plan.specs.declared.Totals.{Totals}
 use Rattle.plan.proofs.Refusals.{Plannable, plannable, refuses_as_table}
-use Rattle.plan.proofs.Answers.{rows_is, bits_is, accepted_refused}
+use Rattle.plan.proofs.Answers.{not_refused, totals_are, rows_is, accepted_refused}
 use Rattle.plan.proofs.Theorems.{arrays_hold}
-use Rattle.keep_out.specs.KeepOut.{MayKeepOut}
+use Rattle.keep_out.specs.KeepOut.{MayKeepOut, PlansKeepOut}
 use Rattle.keep_out.specs.Theorems.{exchanged}
 use Rattle.keep_out.proofs.Exchanging.{exchange}
-use Rattle.better.specs.Better.{Kind, ordinary, keep_out, Choice, is_better, choose, said_of, built_answer, Builds}
-use Rattle.better.specs.Steps.{totals_in, Copyable}
-use Rattle.better.specs.declared.Built.{Built}
-use Rattle.better.specs.declared.Built.TheVariants.{Ordinary, KeepOut, Refused}
+use Rattle.keep_out.proofs.Theorems.{plans_exchanged}
+use Rattle.better.specs.Better.{Kind, ordinary, keep_out, Choice, is_better, choose, said, said_of, Builds}
+use Rattle.better.specs.Steps.{Fits}
+use Rattle.better.specs.declared.Built.TheVariants.{Ordinary, KeepOut}
+use Rattle.better.specs.declared.Draft.{Draft}
 
 -- a list that Plan may write stands in the first places of two arrays, and has these totals
 pub record StandsIn (n : ℕ) (t vs ws : List ℕ) (totals : Totals) : Type 0 where
@@ -36,41 +38,42 @@ pub record StandsIn (n : ℕ) (t vs ws : List ℕ) (totals : Totals) : Type 0 wh
   pub values_are : take totals.rows vs ≡ values_of list
   pub cares_are : take totals.rows ws ≡ cares_of list
 
-module _ (n : ℕ) (t values cares vs ws : List ℕ) (none : plan_refuses n t (length values) (length cares) ≡ 0) where
-  -- where Plan has not refused
-  pub stands : (r : Planned) → Plans n t values cares vs ws r → StandsIn n t vs ws (totals_in r)
-  stands (planned.Refused k) p = absurd (accepted_refused n t values cares vs ws k p none)
-  stands (planned.Rows r b) p = record {
+module _ (n : ℕ) (t values cares vs ws : List ℕ) (totals : Totals) (p : Plans n t values cares vs ws (Ok totals)) where
+  none_refuses : plan_refuses n t (length values) (length cares) ≡ 0
+  none_refuses = not_refused n t values cares vs ws totals p
+
+  held : Held n t values cares vs ws totals
+  held = (arrays_hold n t values cares vs ws).counted totals p
+
+  rows_are : totals.rows ≡ length p.list
+  rows_are = rows_is n t values cares vs ws totals p
+
+  -- where Plan has answered
+  pub stands : StandsIn n t vs ws totals
+  stands = record {
     list = p.list;
-    may = record { minimum = p.minimum none; is_ascending = p.is_ascending none };
-    totals_are = ap₂ (λ (x y : ℕ). record { rows = x; bits = y }) rows (bits_is n t values cares vs ws r b p);
+    may = record { minimum = p.minimum none_refuses; is_ascending = p.is_ascending none_refuses };
+    totals_are = totals_are n t values cares vs ws totals p;
     enough_values = held.enough_values;
     enough_cares = held.enough_cares;
     few = held.few;
-    values_are = front_is (values_of p.list) values (rows ∙ sym (length-map p.list (λ x. x.value))) (p.values_are ∙ ap (λ (k : ℕ). written k (values_of p.list) values) none);
-    cares_are = front_is (cares_of p.list) cares (rows ∙ sym (length-map p.list (λ x. x.care))) (p.cares_are ∙ ap (λ (k : ℕ). written k (cares_of p.list) cares) none);
+    values_are = front_is (values_of p.list) values (rows_are ∙ sym (length-map p.list (λ x. x.value))) (p.values_are ∙ ap (λ (k : ℕ). written k (values_of p.list) values) none_refuses);
+    cares_are = front_is (cares_of p.list) cares (rows_are ∙ sym (length-map p.list (λ x. x.care))) (p.cares_are ∙ ap (λ (k : ℕ). written k (cares_of p.list) cares) none_refuses);
   }
-    where
-      held : Held n t values cares vs ws r b
-      held = (arrays_hold n t values cares vs ws).counted r b p
-
-      rows : r ≡ length p.list
-      rows = rows_is n t values cares vs ws r b p
 
 module _ (n : ℕ) (t values cares : List ℕ) where
   abbrev refusal : ℕ
   refusal = plan_refuses n t (length values) (length cares)
 
-  pub better_refused : (k : ℕ) → k ≡ refusal → (k ≡ 0 → ⊥) → Builds n t values cares values cares (Refused k)
-  better_refused zero e h = absurd (h refl)
-  better_refused (suc k) e h = record {
+  pub better_refused : (e : Refusal) → refusal_number e ≡ refusal → Builds n t values cares values cares (Err e)
+  better_refused e h = record {
     list = [];
     excluding = [];
-    is_list = λ z. absurd (h (e ∙ z));
-    is_excluding = λ z. absurd (h (e ∙ z));
-    answer = ap (λ (i : ℕ). answered i (said_of n (choose n [] []))) e;
-    values_are = ap (λ (i : ℕ). written i (values_of (choose n [] []).list) values) e;
-    cares_are = ap (λ (i : ℕ). written i (cares_of (choose n [] []).list) cares) e;
+    is_list = λ z. absurd (omega (arith, refusal_from e));
+    is_excluding = λ z. absurd (omega (arith, refusal_from e));
+    answer = refuses_answered e (said_of n (choose n [] [])) h;
+    values_are = (listed_refused {list = values_of (choose n [] []).list} e h).places;
+    cares_are = (listed_refused {list = cares_of (choose n [] []).list} e h).places;
   }
 
   module _ (none : refusal ≡ 0) where
@@ -83,8 +86,18 @@ module _ (n : ℕ) (t values cares : List ℕ) where
         refuses_as_table n t v w a b
         ∙ none_in_front (table_conditions n t) (when (short (length values) (plan_places n) || short (length cares) (plan_places n)) 4 ∷ []) none
 
-    pub copyable : {u vs ws : List ℕ} {totals : Totals} → StandsIn n u vs ws totals → Copyable totals.rows vs ws values cares
-    copyable s = record {
+    -- so neither call refuses
+    pub list_drafted : {vs ws vs' ws' : List ℕ} (e : Refusal) → 2 ^ (widest - 1) ≤ length vs → 2 ^ (widest - 1) ≤ length ws → Plans n t vs ws vs' ws' (Err e) → ⊥
+    list_drafted {vs} {ws} {vs'} {ws'} e v w p = accepted_refused n t vs ws vs' ws' e p (none_locally (length vs) (length ws) v w)
+
+    pub excluding_drafted : {vs ws vs' ws' : List ℕ} (e : Refusal) → 2 ^ (widest - 1) ≤ length vs → 2 ^ (widest - 1) ≤ length ws
+        → PlansKeepOut n t vs ws vs' ws' (Err e) → ⊥
+    excluding_drafted {vs} {ws} {vs'} {ws'} e v w p =
+        accepted_refused n (exchanged t) vs ws vs' ws' e ((plans_exchanged n t vs ws vs' ws' (Err e)).0 p)
+        ((exchange n t).refusal (length vs) (length ws) ∙ none_locally (length vs) (length ws) v w)
+
+    pub fits : {u : List ℕ} (draft : Draft) → StandsIn n u draft.values draft.cares draft.totals → Fits draft values cares
+    fits draft s = record {
       from_values = s.enough_values;
       from_cares = s.enough_cares;
       to_values = omega (arith, s.few, places.enough_values);
@@ -106,25 +119,25 @@ module _ (n : ℕ) (t values cares : List ℕ) where
 
       module _ (values' cares' : List ℕ) where
         -- the list that is chosen was copied
-        done : {u vs ws : List ℕ} {totals : Totals} (s : StandsIn n u vs ws totals) (kind : Kind) (r : Built) → both ≡ record { kind = kind; list = s.list }
-            → built_answer r ≡ gives (record { kind = kind; totals = totals }) → values' ≡ written 0 (take totals.rows vs) values
-            → cares' ≡ written 0 (take totals.rows ws) cares → Builds n t values cares values' cares' r
-        done s kind r chosen told v w = record {
+        done : {u vs ws : List ℕ} {totals : Totals} (s : StandsIn n u vs ws totals) (kind : Kind) → both ≡ record { kind = kind; list = s.list }
+            → values' ≡ written 0 (take totals.rows vs) values
+            → cares' ≡ written 0 (take totals.rows ws) cares → Builds n t values cares values' cares' (Ok (said kind totals))
+        done s kind chosen v w = record {
           list = l.list;
           excluding = k.list;
           is_list = λ z. l.may;
           is_excluding = λ z. may_keep_out;
           answer =
-              told ∙ ap (λ (x : Totals). gives (record { kind = kind; totals = x })) s.totals_are
+              ap (λ (x : Totals). gives (said kind x)) s.totals_are
               ∙ ap₂ (λ (i : ℕ) (x : Choice). answered i (said_of n x)) (sym none) (sym chosen);
           values_are = v ∙ ap₂ (λ (i : ℕ) (x : List ℕ). written i x values) (sym none) (s.values_are ∙ ap (λ (x : Choice). values_of x.list) (sym chosen));
           cares_are = w ∙ ap₂ (λ (i : ℕ) (x : List ℕ). written i x cares) (sym none) (s.cares_are ∙ ap (λ (x : Choice). cares_of x.list) (sym chosen));
         }
 
         pub keep_out_done : is_better o a ≡ true → values' ≡ written 0 (take o.rows ovs) values → cares' ≡ written 0 (take o.rows ows) cares
-            → Builds n t values cares values' cares' (KeepOut o.rows o.bits)
-        keep_out_done e = done k keep_out (KeepOut o.rows o.bits) (choice true e) refl
+            → Builds n t values cares values' cares' (Ok (KeepOut o))
+        keep_out_done e = done k keep_out (choice true e)
 
         pub ordinary_done : is_better o a ≡ false → values' ≡ written 0 (take a.rows lvs) values → cares' ≡ written 0 (take a.rows lws) cares
-            → Builds n t values cares values' cares' (Ordinary a.rows a.bits)
-        ordinary_done e = done l ordinary (Ordinary a.rows a.bits) (choice false e) refl
+            → Builds n t values cares values' cares' (Ok (Ordinary a))
+        ordinary_done e = done l ordinary (choice false e)

@@ -2,98 +2,69 @@
 //
 //     let mut values = [0u8; 2];
 //     let mut cares = [0u8; 2];
-//     better::better(2, &[0, 1, 1, 1], &mut values, &mut cares)   // the keep-out list, 1 row, 2 bits: 00; the ordinary list has 2 rows
-#![tactic(auto)]
+//     better::better(2, &[0, 1, 1, 1], &mut values, &mut cares)   // Ok: the keep-out list, 1 row, 2 bits: 00; the ordinary list has 2 rows
+#![tactic(auto, using(cube::proofs::Calls::refusals))]
 
 ghost use Rattle.std.specs.Prelude.{◌≡◌, take};
 ghost use Rattle.cube.specs.Calls.{written};
-ghost use Rattle.better.specs.Better.{is_better, Builds};
-ghost use Rattle.better.specs.Steps.{totals_in, Copyable};
+ghost use Rattle.better.specs.Better.{Builds};
+ghost use Rattle.better.specs.Steps.{Fits};
 
-use plan::Planned;
+use cube::Refusal;
+use plan::Totals;
 use spelling::MOST_CODE_PAIRS;
 
-// Which list is written, its number of rows and the sum of their tested bits, or the number of the refusal.
-#[derive(Drop)]
+// Which list is written, with its totals.
+#[derive(Clone, Copy, PartialEq, Eq)]
 pub enum Built {
-    Ordinary(usize, usize),
-    KeepOut(usize, usize),
-    Refused(u8),
+    Ordinary(Totals),
+    KeepOut(Totals),
 }
 
-// The totals of a list: its rows and their tested bits.
+// A list in two arrays of its own, which have places for the widest one, with its totals.
 #[derive(Clone, Copy)]
-struct Totals {
-    rows: usize,
-    bits: usize,
+struct Draft {
+    totals: Totals,
+    values: [u8; MOST_CODE_PAIRS],
+    cares: [u8; MOST_CODE_PAIRS],
 }
 
-// The totals that a call has answered, where it has not refused.
-fn totals_in(answer: Planned) -> Totals
-    ensures { record { rows = result.rows; bits = result.bits } ≡ totals_in answer }
-{
-    match answer {
-        Planned::Rows(rows, bits) => Totals { rows, bits },
-        Planned::Refused(_) => Totals { rows: 0, bits: 0 },
+impl Draft {
+    // No row.
+    fn new() -> Draft {
+        Draft {
+            totals: Totals { rows: 0, bits: 0 },
+            values: [0; MOST_CODE_PAIRS],
+            cares: [0; MOST_CODE_PAIRS],
+        }
+    }
+
+    // Copies the list into the first places of two other arrays.
+    fn write(&self, values: &mut [u8], cares: &mut [u8])
+        requires { Fits self.now values.old cares.old }
+        ensures values_after { values.new ≡ written 0 (take self.now.totals.rows self.now.values) values.old }
+        ensures cares_after { cares.new ≡ written 0 (take self.now.totals.rows self.now.cares) cares.old }
+    {
+        let rows = self.totals.rows;
+        values[..rows].copy_from_slice(&self.values[..rows]);
+        cares[..rows].copy_from_slice(&self.cares[..rows]);
     }
 }
 
-// Whether the first totals are those of a better list: fewer rows, or as many and fewer tested bits.
-fn is_better(a: Totals, b: Totals) -> bool
-    ensures { result ≡ is_better (record { rows = a.rows; bits = a.bits }) (record { rows = b.rows; bits = b.bits }) }
-{
-    if a.rows < b.rows {
-        return true;
-    }
-    if b.rows < a.rows {
-        return false;
-    }
-    if a.bits < b.bits {
-        return true;
-    }
-    false
-}
-
-// Copies the first rows of two arrays into the first places of two others.
-fn copy_rows(rows: usize, vs: &[u8], ws: &[u8], values: &mut [u8], cares: &mut [u8])
-    requires { Copyable rows vs.now ws.now values.old cares.old }
-    ensures values_after { values.new ≡ written 0 (take rows vs.now) values.old }
-    ensures cares_after { cares.new ≡ written 0 (take rows ws.now) cares.old }
-{
-    values[..rows].copy_from_slice(&vs[..rows]);
-    cares[..rows].copy_from_slice(&ws[..rows]);
-}
-
-// Builds both shortest lists for a table, and writes the better into the first places of both arrays, ascending by cube number. Answers which it is and
-// its counts, or the number of the refusal.
-pub fn better(n: usize, table: &[u8], values: &mut [u8], cares: &mut [u8]) -> Built
+// Builds both shortest lists for a table, and writes the better into the first places of both arrays, ascending by cube number. Answers which it is, with
+// its totals.
+pub fn better(n: usize, table: &[u8], values: &mut [u8], cares: &mut [u8]) -> Result<Built, Refusal>
     ensures { Builds n table.now values.old cares.old values.new cares.new result }
 {
-    let k = plan::plan_refusal(n, table, values.len(), cares.len());
-    if k != 0 {
-        return Built::Refused(k);
+    plan::accept(n, table, values.len(), cares.len())?;
+    let mut list = Draft::new();
+    list.totals = plan::plan(n, table, &mut list.values, &mut list.cares)?;
+    let mut excluding = Draft::new();
+    excluding.totals = keep_out::keep_out(n, table, &mut excluding.values, &mut excluding.cares)?;
+    if excluding.totals < list.totals {
+        excluding.write(values, cares);
+        return Ok(Built::KeepOut(excluding.totals));
     }
-    let mut list_values = [0u8; MOST_CODE_PAIRS];
-    let mut list_cares = [0u8; MOST_CODE_PAIRS];
-    let list = totals_in(plan::plan(n, table, &mut list_values, &mut list_cares));
-    let mut excluding_values = [0u8; MOST_CODE_PAIRS];
-    let mut excluding_cares = [0u8; MOST_CODE_PAIRS];
-    let excluding = totals_in(keep_out::keep_out(
-        n,
-        table,
-        &mut excluding_values,
-        &mut excluding_cares,
-    ));
-    if is_better(excluding, list) {
-        copy_rows(
-            excluding.rows,
-            &excluding_values,
-            &excluding_cares,
-            values,
-            cares,
-        );
-        return Built::KeepOut(excluding.rows, excluding.bits);
-    }
-    copy_rows(list.rows, &list_values, &list_cares, values, cares);
-    Built::Ordinary(list.rows, list.bits)
+    list.write(values, cares);
+    Ok(Built::Ordinary(list.totals))
 }

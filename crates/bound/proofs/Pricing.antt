@@ -1,6 +1,9 @@
 -- Prices as a dual solution: each undecided column is an inequality, times its price. The bound is the sum of the prices, it is rounded up in rows, and a
 -- row whose own weight with the bound of what it leaves reaches the limit is in no cover below the limit. Assumes nothing.
-use Rattle.std.proofs.Common.{◌≡◌, ℕ, ◌+◌, ◌-◌, ◌*◌, ◌/◌, ◌<◌, ◌≤◌, Bool, true, false, not, ◌&&◌, eqb, ◌⊎◌, List, refl, ap, ◌∙◌, ap₂, inl, inr, mul-le-mul_right, div-mul-le_self, arith}
+use Rattle.std.proofs.Common.{◌≡◌, ℕ, ◌+◌, ◌-◌, ◌*◌, ◌/◌, ◌<◌, ◌≤◌, max, Bool, true, false, not, ◌&&◌, eqb, ◌⊎◌, List, refl, ap, ◌∙◌, ap₂, inl, inr, mul-le-mul_right, arith}
+use Rattle.std.specs.Int.{div_ceil}
+use Rattle.std.proofs.lemmas.Grind.{div_ceil_times}
+use Rattle.std.proofs.Math.Nat.{le-div_iff_mul-le, mul-le-mul_left}
 use native.Mathlib.Decide.{dec_lt}
 use Rattle.covering.specs.Sum.{if_set}
 use Rattle.covering.specs.Weighted.{AtLeast}
@@ -10,16 +13,13 @@ use Rattle.covering.proofs.Bounds.{smaller, narrower, nothing, column, dual, in_
 use Rattle.matrix.specs.Sets.{ColumnSet, RowSet, column_limit, has, member, Member}
 use Rattle.matrix.specs.Matrix.{row_count, covered, CoversColumn, weight_of, Low}
 use Rattle.matrix.proofs.Without.{left_in, left_rest, covers_past}
-use Rattle.bound.specs.Bound.{Kept, Bounds}
-use Rattle.bound.specs.Steps.{price_of, worth, row_columns, Certificate, Ranges, Rounded}
+use Rattle.pricing.specs.Prices.{price_of, worth}
+use Rattle.bound.specs.Bound.{Kept}
+use Rattle.bound.specs.Steps.{row_columns, Certificate, Ranges, Rounded}
 
 -- ---- what columns are worth
 
 module _ (prices : List ℕ) (p q : ℕ → Bool) where
-  -- the same, where p and q hold of the same columns
-  pub worth_same : ((c : ℕ) → p c ≡ q c) → worth prices p ≡ worth prices q
-  worth_same e = sum_same column_limit (λ c l. ap (λ (b : Bool). if_set b (price_of prices c)) (e c))
-
   -- no more, where q holds of every column that p holds of
   worth_fewer : ((c : ℕ) → p c ≡ true → q c ≡ true) → worth prices p ≤ worth prices q
   worth_fewer f = sum_mono column_limit (λ c. if_set_mono (p c) (q c) (price_of prices c) (f c))
@@ -35,6 +35,10 @@ module _ (prices : List ℕ) (p q : ℕ → Bool) where
       split true false x = omega arith
       split false true x = omega arith
       split false false x = omega arith
+
+-- a quotient that std rounds up is no more than the one that covering rounds up
+ceil_least : (low most : ℕ) → 0 < most → div_ceil low most ≤ (low + (most - 1)) / most
+ceil_least low most pos = (le-div_iff_mul-le pos).1 (let b = (div_ceil_times low most pos).1 in omega arith)
 
 module _ (words weights : List ℕ) where
   -- ---- the bound, of any columns p
@@ -79,13 +83,19 @@ module _ (words weights : List ℕ) where
 
   -- ---- rounding in rows
 
-  pub rounded_low : (live : RowSet) (u : ColumnSet) (low least most : ℕ) → Ranges weights live (row_count words) least most → Low words weights live u low
-      → Low words weights live u (least * ((low + (most - 1)) / most))
+  in_rows_low : (live : RowSet) (u : ColumnSet) (low least most : ℕ) → Ranges weights live (row_count words) least most → Low words weights live u low
+      → Low words weights live u (least * div_ceil low most)
   unfolding Row
-  rounded_low live u low least most r b =
+  in_rows_low live u low least most r b =
       useful (CoversColumn words) (weight_of weights) (before_end live)
+      (smaller (CoversColumn words) (mul-le-mul_left least (ceil_least low most r.positive))
       (in_rows (CoversColumn words) least most r.positive (λ i m. (r.above i m.1 m.0, r.below i m.1 m.0))
-      (narrower (CoversColumn words) (λ i m. m.0) (λ c h. h) (omega arith) b))
+      (narrower (CoversColumn words) (λ i m. m.0) (λ c h. h) (omega arith) b)))
+
+  pub rounded_low : (live : RowSet) (low least most : ℕ) → Ranges weights live (row_count words) least most
+      → Rounded words weights live low (max low (least * div_ceil low most))
+  rounded_low live low least most r u b =
+      let d = in_rows_low live u low least most r b in record { bound = λ L l s. omega (arith, b.bound L l s, d.bound L l s) }
 
   -- ---- rows that no cover below the limit has
 
@@ -93,22 +103,22 @@ module _ (words weights : List ℕ) where
     pub kept_all : (live : RowSet) → Kept words weights live u limit live
     kept_all live = record { fewer = λ i h. h; low = λ k l b. b }
 
-    pub kept_then : {live rest last : RowSet} → Kept words weights live u limit rest → Kept words weights rest u limit last → Kept words weights live u limit last
+    kept_then : {live rest last : RowSet} → Kept words weights live u limit rest → Kept words weights rest u limit last → Kept words weights live u limit last
     kept_then f g = record { fewer = λ i h. f.fewer i (g.fewer i h); low = λ k l b. f.low k l (g.low k l b) }
 
   -- ---- what a certificate shows
 
   module _ {u : ColumnSet} {limit total : ℕ} {live rest : RowSet} {prices : List ℕ} (h : Certificate words weights live u limit prices total) where
     -- it is one for fewer rows too
-    pub certificate_kept : Kept words weights live u limit rest → Certificate words weights rest u limit prices total
+    certificate_kept : Kept words weights live u limit rest → Certificate words weights rest u limit prices total
     unfolding PaidFor
     certificate_kept k = record { limited = h.limited; valued = h.valued; feasible = paid_less live rest (has u) (has u) prices k.fewer (λ c m. m) h.feasible }
 
     -- what a row leaves is worth the total less what the row pays for its undecided columns
-    pub kept_without : (i paid : ℕ) → ((j : ℕ) → member rest j ≡ (member live j && not (eqb j i))) → paid ≡ worth prices (row_columns words u i)
-        → limit + paid ≤ weight_of weights i + total → Kept words weights live u limit rest
+    kept_without : (i : ℕ) → limit + worth prices (row_columns words u i) ≤ weight_of weights i + total
+        → ((j : ℕ) → member rest j ≡ (member live j && not (eqb j i))) → Kept words weights live u limit rest
     unfolding PaidFor
-    kept_without i paid e v l = record {
+    kept_without i l e = record {
       fewer = left_in live rest i e;
       low = λ k m b. branch (CoversColumn words) (weight_of weights) i (left_rest live rest i e) k (λ c. kept_of_lem (has u c) (row c) refl)
           (paid_low rest left prices (paid_less live rest (has u) left prices (left_in live rest i e) (λ c n. (kept_of_lem (has u c) (row c) refl n).0) h.feasible)) b
@@ -121,19 +131,20 @@ module _ (words weights : List ℕ) where
         left : ℕ → Bool
         left c = has u c && not (row c)
 
-    -- its total, rounded up, is a lower bound
-    pub bounds_by : {low : ℕ} → Rounded words weights live total low → Kept words weights live u limit rest → Bounds words weights live u limit low rest
-    unfolding PaidFor
-    bounds_by r k = record { low = λ x l m. smaller (CoversColumn words) l (r u (smaller (CoversColumn words) (omega arith) (paid_low live (has u) prices h.feasible))); kept = k }
+  -- its total, rounded up, is a lower bound
+  pub total_low : {u : ColumnSet} {limit total low : ℕ} {live : RowSet} {prices : List ℕ} → Certificate words weights live u limit prices total
+      → Rounded words weights live total low → (k : ℕ) → k ≤ low → Low words weights live u k
+  unfolding PaidFor
+  total_low {u = u} {live = live} {prices = prices} h r k l =
+      smaller (CoversColumn words) l (r u (smaller (CoversColumn words) (omega arith) (paid_low live (has u) prices h.feasible)))
 
-  -- ---- two bounds
-
-  -- the second is one for the rows that the first leaves
-  pub bounds_then : {live rest last : RowSet} {u : ColumnSet} {limit low next : ℕ} → Bounds words weights live u limit low rest → Bounds words weights rest u limit next last
-      → Bounds words weights live u limit next last
-  bounds_then f g = record { low = λ k l m. f.kept.low k m (g.low k l m); kept = kept_then f.kept g.kept }
+  -- the row may be dropped from those that are left of the live ones
+  pub kept_turn : {u : ColumnSet} {limit total : ℕ} {live rest last : RowSet} {prices : List ℕ} → Certificate words weights live u limit prices total
+      → (i : ℕ) → limit + worth prices (row_columns words u i) ≤ weight_of weights i + total → ((j : ℕ) → member last j ≡ (member rest j && not (eqb j i)))
+      → Kept words weights live u limit rest → Kept words weights live u limit last
+  kept_turn h i l e k = kept_then k (kept_without (certificate_kept h k) i l e)
 
 -- least * rows fits, where rows is a bound divided by a larger number
-pub rows_small : (low least most : ℕ) → 0 < most → least ≤ most → least * ((low + (most - 1)) / most) ≤ low + most
+pub rows_small : (low least most : ℕ) → 0 < most → least ≤ most → least * div_ceil low most ≤ low + most
 rows_small low least most pos l =
-    omega (arith, mul-le-mul_right ((low + (most - 1)) / most) l, div-mul-le_self (low + (most - 1)) most)
+    let b = (div_ceil_times low most pos).1 in omega (arith, mul-le-mul_right (div_ceil low most) l)

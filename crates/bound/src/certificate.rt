@@ -1,205 +1,152 @@
 // The certificate: prices for the columns such that no live row's undecided columns are worth more than the row weighs. Then every cover weighs at least
 // what all undecided columns are worth. This is checked here, whoever found the prices.
-ghost use Rattle.std.specs.Prelude.{◌≡◌, ◌<◌, ◌≤◌, true};
-ghost use Rattle.matrix.specs.Sets.{has};
-ghost use Rattle.matrix.specs.Matrix.{row_count, Sizes, weight_limit};
-ghost use Rattle.bound.specs.Bound.{Limited, Kept, Bounds};
-ghost use Rattle.bound.specs.Steps.{worth_limit, Valued, row_columns, Pays, Feasible, Ranges, Rounded, Certificate};
+ghost use Rattle.std.specs.Prelude.{◌≡◌, ℕ, ◌+◌, ◌<◌, ◌≤◌, true, IfSome};
+ghost use Rattle.matrix.specs.Matrix.{row_count, weight_of, Low};
+ghost use Rattle.pricing.specs.Prices.{worth_limit, worth, Valued};
+ghost use Rattle.bound.specs.Bound.{cost_limit, Kept, Bounds};
+ghost use Rattle.bound.specs.Steps.{row_columns, Pays, Feasible, Ranges, Rounded, Certificate};
 
-use matrix::{columns, rows};
-
-// A price for each column.
-pub type Prices = [u32; columns::LIMIT];
-
-// A lower bound, and the live rows that a cover below the limit can have.
-#[derive(Drop)]
-pub struct Bounded {
-    pub low: u64,
-    pub live: rows::Set,
-}
-
-// A price as a number wide enough for sums of prices.
-fn wide(x: u32) -> u64
-    ensures { (result ≡ x) × (result < weight_limit) }
-{
-    x as u64
-}
-
-// What the columns of a set are worth together.
-pub fn worth(prices: &Prices, set: columns::Set) -> u64
-    ensures { Valued prices.now (has set) result }
-{
-    let mut total: u64 = 0;
-    let mut c = columns::next(set, 0);
-    while c < columns::LIMIT {
-        total += wide(prices[c]);
-        c = columns::next(set, c + 1);
-    }
-    total
-}
+use matrix::{Matrix, Subproblem, columns, rows};
+use pricing::Prices;
 
 // What the undecided columns of the row i are worth together.
-pub fn row_worth(words: &[u64], undecided: columns::Set, prices: &Prices, i: usize) -> u64
-    requires { i < row_count words.now }
-    ensures { Valued prices.now (row_columns words.now undecided i) result }
+fn row_worth(problem: &Subproblem, prices: &Prices, i: usize) -> u64
+    requires { i < row_count problem.now.matrix.words.now }
+    ensures { Valued prices.now (row_columns problem.now.matrix.words.now problem.now.undecided i) result }
 {
-    worth(prices, columns::both(matrix::covered(words, i), undecided))
+    pricing::worth(prices, problem.matrix.columns_of(i) & problem.undecided)
 }
 
 // Whether the undecided columns of the row i are worth no more than it weighs.
-fn pays(words: &[u64], weights: &[u32], undecided: columns::Set, prices: &Prices, i: usize) -> bool
-    requires { Sizes words.now weights.now × (i < row_count words.now) }
-    ensures { result ≡ true → Pays words.now weights.now undecided prices.now i }
+fn pays(problem: &Subproblem, prices: &Prices, i: usize) -> bool
+    requires { i < row_count problem.now.matrix.words.now }
+    ensures { result ≡ true → Pays problem.now.matrix.words.now problem.now.matrix.weights.now problem.now.undecided prices.now i }
 {
-    row_worth(words, undecided, prices, i) <= matrix::weight(weights, i)
+    row_worth(problem, prices, i) <= problem.matrix.weight(i)
 }
 
 // Whether each live row pays.
-fn feasible(
-    words: &[u64],
-    weights: &[u32],
-    live: &rows::Set,
-    undecided: columns::Set,
-    prices: &Prices,
-) -> bool
-    requires { Sizes words.now weights.now }
-    ensures { result ≡ true → Feasible words.now weights.now live.now undecided prices.now }
+#[tactic(auto, using(numbers::proofs::Closures::asked))]
+fn feasible(problem: &Subproblem, prices: &Prices) -> bool
+    ensures { result ≡ true → Feasible problem.now.matrix.words.now problem.now.matrix.weights.now problem.now.live.now problem.now.undecided prices.now }
 {
-    let end = matrix::row_count(words);
-    let mut i = rows::next(live, 0, end);
-    while i < end {
-        if !pays(words, weights, undecided, prices, i) {
-            return false;
-        }
-        i = rows::next(live, i + 1, end);
-    }
-    true
+    problem
+        .live
+        .iter(problem.matrix.rows())
+        .all(|i| pays(problem, prices, i))
 }
 
 // The least and the largest weight of some rows.
-#[derive(Drop)]
-pub struct Range {
-    pub least: u64,
-    pub most: u64,
+#[derive(Clone, Copy)]
+struct Range {
+    least: u64,
+    most: u64,
+    ghost ordered: { least ≤ most },
 }
 
-// The range of the live rows' weights.
-fn weight_range(words: &[u64], weights: &[u32], live: &rows::Set) -> Range
-    requires { Sizes words.now weights.now }
-    ensures { Ranges weights.now live.now (row_count words.now) result.least result.most }
+// The range of the live rows' weights, if there is a row. The largest counts as 1 at least.
+fn weight_range(problem: &Subproblem) -> Option<Range>
+    ensures { IfSome result (λ r. Ranges problem.now.matrix.weights.now problem.now.live.now (row_count problem.now.matrix.words.now) r.least r.most) }
 {
-    let mut least = u32::MAX as u64;
-    let mut most: u64 = 1;
-    let end = matrix::row_count(words);
-    let mut i = rows::next(live, 0, end);
-    while i < end {
-        let weight = matrix::weight(weights, i);
-        least = matrix::smaller(least, weight);
-        most = matrix::larger(most, weight);
-        i = rows::next(live, i + 1, end);
+    let mut least = u64::from(u32::MAX);
+    let mut most = 1;
+    for i in problem.live.iter(problem.matrix.rows()) {
+        let weight = problem.matrix.weight(i);
+        least = least.min(weight);
+        most = most.max(weight);
     }
-    Range { least, most }
+    if least <= most {
+        Some(Range { least, most })
+    } else {
+        None
+    }
 }
 
 // A bound rounded up in rows: at least this many rows are needed, each of at least the least weight.
-fn rounded(words: &[u64], weights: &[u32], live: &rows::Set, low: u64) -> u64
-    requires { Sizes words.now weights.now × (low ≤ worth_limit) }
-    ensures { Rounded words.now weights.now live.now low result }
+#[tactic(auto, using(crate::proofs::Pricing::rounded_low, crate::proofs::Pricing::rows_small))]
+fn rounded(problem: &Subproblem, low: u64) -> u64
+    requires { low ≤ worth_limit }
+    ensures { Rounded problem.now.matrix.words.now problem.now.matrix.weights.now problem.now.live.now low result }
 {
-    let weight = weight_range(words, weights, live);
-    let least = weight.least;
-    let most = weight.most;
-    if most < least {
-        return low;
+    match weight_range(problem) {
+        Some(weight) => low.max(weight.least * low.div_ceil(weight.most)),
+        None => low,
     }
-    let raised = least * ((low + (most - 1)) / most);
-    if low < raised {
-        return raised;
+}
+
+// A certificate: the prices, what the undecided columns are worth in all, and the limit that covers are to stay below.
+#[derive(Clone, Copy)]
+struct DualSolution<'a, 'b> {
+    problem: Subproblem<'a>,
+    limit: u64,
+    prices: &'b Prices,
+    total: u64,
+    ghost shows: { Certificate problem.matrix.words.now problem.matrix.weights.now problem.live.now problem.undecided limit prices.now total },
+}
+
+impl<'a, 'b> DualSolution<'a, 'b> {
+    // A lower bound: the total rounded up in rows.
+    fn low(&self) -> u64
+        ensures { (k : ℕ) → k ≤ result → Low self.now.problem.matrix.words.now self.now.problem.matrix.weights.now self.now.problem.live.now self.now.problem.undecided k }
+    {
+        rounded(&self.problem, self.total)
+    }
+
+    // Whether every cover with the row i weighs as much as the limit: the row, and what it leaves.
+    fn excludes(&self, i: usize) -> bool
+        requires { i < row_count self.now.problem.matrix.words.now }
+        ensures { result ≡ true → self.now.limit + worth self.now.prices.now (row_columns self.now.problem.matrix.words.now self.now.problem.undecided i) ≤ weight_of self.now.problem.matrix.weights.now i + self.now.total }
+    {
+        let paid = row_worth(&self.problem, self.prices, i);
+        self.limit + paid <= self.problem.matrix.weight(i) + self.total
+    }
+
+    // The live rows without those that are in no cover below the limit.
+    #[tactic(auto, using(crate::proofs::Pricing::kept_all))]
+    fn kept(&self) -> rows::Set
+        ensures { Kept self.now.problem.matrix.words.now self.now.problem.matrix.weights.now self.now.problem.live.now self.now.problem.undecided self.now.limit result }
+    {
+        let mut kept = *self.problem.live;
+        for i in self.problem.live.iter(self.problem.matrix.rows()) {
+            if self.excludes(i) {
+                kept.remove(i);
+            }
+        }
+        kept
+    }
+}
+
+// What prices for the columns show: nothing, unless they are a certificate. Drops the live rows that no cover below the limit can have, and returns a lower bound.
+#[tactic(auto, using(crate::proofs::Pricing::kept_all))]
+pub fn certified(
+    matrix: Matrix,
+    live: &mut rows::Set,
+    undecided: columns::Set,
+    limit: u64,
+    prices: &Prices,
+) -> u64
+    requires { limit < cost_limit }
+    ensures { Bounds matrix.entry.words.now matrix.entry.weights.now live.old undecided limit result live.new }
+{
+    let all = *live;
+    let problem = Subproblem {
+        matrix,
+        live: &all,
+        undecided,
+    };
+    if !feasible(&problem, prices) {
+        return 0;
+    }
+    let total = pricing::worth(prices, undecided);
+    let solution = DualSolution {
+        problem,
+        limit,
+        prices,
+        total,
+    };
+    let low = solution.low();
+    if low < limit {
+        *live = solution.kept();
     }
     low
-}
-
-// The live rows without the row i, if every cover with it weighs as much as the limit.
-fn fix_row(
-    words: &[u64],
-    weights: &[u32],
-    live: rows::Set,
-    undecided: columns::Set,
-    limit: u64,
-    prices: &Prices,
-    total: u64,
-    i: usize,
-) -> rows::Set
-    requires { Certificate words.now weights.now live undecided limit prices.now total × (i < row_count words.now) }
-    ensures { Kept words.now weights.now live undecided limit result }
-{
-    let paid = row_worth(words, undecided, prices, i);
-    if limit + paid <= matrix::weight(weights, i) + total {
-        return rows::without_row(live, i);
-    }
-    live
-}
-
-// The live rows without those that are in no cover below the limit.
-fn fix_rows(
-    words: &[u64],
-    weights: &[u32],
-    live: rows::Set,
-    undecided: columns::Set,
-    limit: u64,
-    prices: &Prices,
-    total: u64,
-) -> rows::Set
-    requires { Certificate words.now weights.now live undecided limit prices.now total }
-    ensures { Kept words.now weights.now live undecided limit result }
-{
-    let mut kept = live;
-    let end = matrix::row_count(words);
-    let mut i = rows::next(&kept, 0, end);
-    while i < end {
-        let rest = fix_row(words, weights, kept, undecided, limit, prices, total, i);
-        kept = rest;
-        i = rows::next(&kept, i + 1, end);
-    }
-    kept
-}
-
-// What a certificate shows: its total rounded up in rows, and the live rows without those that are in no cover below the limit.
-fn shown(
-    words: &[u64],
-    weights: &[u32],
-    live: rows::Set,
-    undecided: columns::Set,
-    limit: u64,
-    prices: &Prices,
-    total: u64,
-) -> Bounded
-    requires { Certificate words.now weights.now live undecided limit prices.now total }
-    ensures { Bounds words.now weights.now live undecided limit result.low result.live }
-{
-    let low = rounded(words, weights, &live, total);
-    if limit <= low {
-        return Bounded { low, live };
-    }
-    let kept = fix_rows(words, weights, live, undecided, limit, prices, total);
-    Bounded { low, live: kept }
-}
-
-// What prices for the columns show: nothing, unless they are a certificate.
-pub fn certified(
-    words: &[u64],
-    weights: &[u32],
-    live: rows::Set,
-    undecided: columns::Set,
-    limit: u64,
-    prices: &Prices,
-) -> Bounded
-    requires { Limited words.now weights.now limit }
-    ensures { Bounds words.now weights.now live undecided limit result.low result.live }
-{
-    if !feasible(words, weights, &live, undecided, prices) {
-        return Bounded { low: 0, live };
-    }
-    let total = worth(prices, undecided);
-    shown(words, weights, live, undecided, limit, prices, total)
 }

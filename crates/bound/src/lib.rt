@@ -5,30 +5,56 @@
 // every cover weighs at least 4.
 #![tactic(auto)]
 
-ghost use Rattle.bound.specs.Bound.{Limited, Bounds};
+ghost use Rattle.std.specs.Prelude.{◌<◌};
+ghost use Rattle.bound.specs.Bound.{cost_limit, Bounds};
 
-use matrix::{columns, rows};
+use matrix::transposed::ByColumn;
+use matrix::{Matrix, Subproblem, columns, rows};
+use pricing::Prices;
+use pricing::dual::{self, Problem};
 
 pub mod certificate;
-pub mod dual;
 
-// A lower bound, and the live rows that a cover below the limit can have: by an ascent from zero, and by one from a fair share unless the first is enough.
-pub fn tighten(
-    words: &[u64],
-    weights: &[u32],
-    live: rows::Set,
+// Drops the live rows that no cover below the limit can have, as prices for the columns show, and returns a lower bound. It is not inlined: its arrays are not to
+// lie on the stack of whoever asks for bounds on the way down.
+// The parts of a `Subproblem` come one by one, since the rows are lent to be changed and it only reads them.
+#[inline(never)]
+fn tighten_by<F: Fn(&Problem) -> Prices>(
+    find: F,
+    matrix: Matrix,
+    live: &mut rows::Set,
     undecided: columns::Set,
     limit: u64,
-) -> certificate::Bounded
-    requires { Limited words.now weights.now limit }
-    ensures { Bounds words.now weights.now live undecided limit result.low result.live }
+) -> u64
+    requires callable { F.IsAlwaysCallable find }
+    requires small { limit < cost_limit }
+    ensures { Bounds matrix.entry.words.now matrix.entry.weights.now live.old undecided limit result live.new }
 {
-    let ascent = dual::from_zero(words, weights, &live, undecided);
-    let first = certificate::certified(words, weights, live, undecided, limit, &ascent);
-    if limit <= first.low {
-        return first;
+    let first = *live;
+    let covering = Subproblem {
+        matrix,
+        live: &first,
+        undecided,
+    };
+    let by_column = ByColumn::of(&covering);
+    let prices = find(&Problem {
+        covering,
+        by_column: &by_column,
+        scale: 1,
+        fee: 0,
+    });
+    certificate::certified(matrix, live, undecided, limit, &prices)
+}
+
+// Drops the live rows that no cover below the limit can have, and returns a lower bound: by an ascent from zero, and by one from a fair share unless the first
+// is enough.
+pub fn tighten(matrix: Matrix, live: &mut rows::Set, undecided: columns::Set, limit: u64) -> u64
+    requires { limit < cost_limit }
+    ensures { Bounds matrix.entry.words.now matrix.entry.weights.now live.old undecided limit result live.new }
+{
+    let low = tighten_by(dual::from_zero, matrix, live, undecided, limit);
+    if limit <= low {
+        return low;
     }
-    let rest = first.live;
-    let share = dual::from_shares(words, weights, &rest, undecided);
-    certificate::certified(words, weights, rest, undecided, limit, &share)
+    tighten_by(dual::from_shares, matrix, live, undecided, limit)
 }

@@ -1,2 +1,3 @@
--- The wrong answers that Cells' promise shuts out.
+-- What `find` tells, and the wrong answers that Cells' promise shuts out.
+pub mod FromEnd
 pub mod Refuted

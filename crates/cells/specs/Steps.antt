@@ -1,15 +1,14 @@
 -- What the steps of Cells leave: the first untested digit, the halves of a cube, and room for its codes. Assumes nothing.
-use Rattle.std.specs.Prelude.{◌≡◌, ℕ, ◌+◌, ◌^◌, ◌-◌, ◌<◌, ◌≤◌, List, [], ◌∷◌, ◌++◌, length}
+use Rattle.std.specs.Prelude.{◌≡◌, ◌≢◌, ℕ, ◌+◌, ◌^◌, ◌-◌, ◌<◌, ◌≤◌, List, [], ◌∷◌, ◌++◌, Option, MatchOption, length}
 use Rattle.cube.specs.Words.{digit, cube_literals, codes_of}
 use Rattle.cube.specs.Calls.{widest}
 use Rattle.cells.specs.declared.Split.{Split}
 use Rattle.cells.specs.declared.Split.TheVariants.{Code, Halves}
 
--- r is one more than the place of the first untested digit of q, x1's first, or 0 where there is none
-pub record FirstUntested (n q r : ℕ) : Type 0 where
-  pub inside : r ≤ n
-  pub untested : 0 < r → digit (r - 1) q ≡ 2
-  pub before : (j : ℕ) → r ≤ j → j < n → digit j q ≡ 2 → ⊥
+-- r is the place of the first untested digit of q, x1's first, where there is one
+abbrev pub FirstUntested : ℕ → ℕ → Option ℕ → Type 0
+FirstUntested n q r =
+    MatchOption r ((j : ℕ) → j < n → digit j q ≢ 2) (λ k. (k < n) × (digit k q ≡ 2) × ((j : ℕ) → k < j → j < n → digit j q ≢ 2))
 
 -- a half of q: a cube of the same width with a smaller number and fewer untested digits
 pub record Half (n q p : ℕ) : Type 0 where

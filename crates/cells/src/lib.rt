@@ -1,8 +1,8 @@
 // Cells: the codes that a cube matches, ascending, found by splitting at the first untested digit.
 //
 //     let mut codes = [0u8; 16];
-//     cells::cells(4, 53, &mut codes)     // digits 1 2 2 2: the codes 8 to 15, count 8
-#![tactic(auto)]
+//     cells::cells(4, 53, &mut codes)     // digits 1 2 2 2: Ok(8), the codes 8 to 15
+#![tactic(auto, using(cube::proofs::Calls::refusals))]
 
 ghost use Rattle.std.specs.Prelude.{◌<◌, ◌≤◌, ◌^◌, length};
 ghost use Rattle.numbers.specs.Lent.{Puts};
@@ -11,25 +11,18 @@ ghost use Rattle.cube.specs.Calls.{widest, Listed};
 ghost use Rattle.cells.specs.Cells.{cells_refuses};
 ghost use Rattle.cells.specs.Steps.{FirstUntested, Splits, RoomForCodes};
 
-use cube::Counted;
+use cube::Refusal;
 
-// One more than the place of the first untested digit, or 0 where every digit is tested.
-fn first_untested(n: usize, q: usize) -> usize
+// The place of the first untested digit, x1's first.
+fn first_untested(n: usize, q: usize) -> Option<usize>
     requires { n ≤ widest }
     ensures { FirstUntested n q result }
 {
-    let mut k = n;
-    while 0 < k {
-        if spelling::digit(q, k - 1) == 2 {
-            return k;
-        }
-        k -= 1;
-    }
-    0
+    (0..n).rev().find(|&k| spelling::digit(q, k) == 2)
 }
 
 // A cube with no untested digit is one code; any other is two halves, the 0 half first.
-#[derive(Drop)]
+#[derive(Clone, Copy)]
 pub enum Split {
     Code(u8),
     Halves(usize, usize),
@@ -40,12 +33,13 @@ pub fn split_at_first(n: usize, q: usize) -> Split
     requires { (n ≤ widest) × (q < 3 ^ n) }
     ensures { Splits n q result }
 {
-    let k = first_untested(n, q);
-    if k == 0 {
-        return Split::Code(spelling::value(n, q));
+    match first_untested(n, q) {
+        None => Split::Code(spelling::row(n, q).value),
+        Some(k) => {
+            let weight = spelling::cubes(k);
+            Split::Halves(q - 2 * weight, q - weight)
+        }
     }
-    let weight = spelling::cubes(k - 1);
-    Split::Halves(q - 2 * weight, q - weight)
 }
 
 // Writes the codes of q from place `at` on and returns the place after them.
@@ -65,18 +59,13 @@ fn write_codes(n: usize, q: usize, out: &mut [u8], at: usize) -> usize
     }
 }
 
-// Writes the codes that a cube matches into the first bytes, ascending. Answers how many there are, or the number of the refusal.
-pub fn cells(n: usize, q: usize, out: &mut [u8]) -> Counted
+// Writes the codes that a cube matches into the first bytes, ascending. Answers how many there are, or why it refuses.
+pub fn cells(n: usize, q: usize, out: &mut [u8]) -> Result<usize, Refusal>
     ensures { Listed (cells_refuses n q (length out.old)) (codes_of n q) out.old out.new result }
 {
-    if spelling::bad_width(n) {
-        return Counted::Refused(1);
-    }
-    if spelling::cubes(n) <= q {
-        return Counted::Refused(8);
-    }
+    spelling::check_cube(n, q)?;
     if out.len() < spelling::codes(n) {
-        return Counted::Refused(4);
+        return Err(Refusal::ShortOutput);
     }
-    Counted::Count(write_codes(n, q, out, 0))
+    Ok(write_codes(n, q, out, 0))
 }

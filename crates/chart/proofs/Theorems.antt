@@ -10,9 +10,9 @@ use Rattle.numbers.proofs.Bools.{and_r}
 use Rattle.numbers.proofs.Below.{those_at}
 use Rattle.cube.proofs.Calls.{listed_front}
 use Rattle.chart_arrays.proofs.Theorems.{word_tells}
-use Rattle.chart.specs.Rows.{chart_row}
+use Rattle.chart_arrays.specs.Rows.{chart_row}
 use Rattle.chart.specs.Theorems.{NoEmptyWord, ChartTells}
-use Rattle.chart.specs.declared.ChartRow.{ChartRow}
+use Rattle.chart_arrays.specs.declared.ChartRow.{ChartRow}
 
 module _ (n : ℕ) (t : List ℕ) where
   row_cubes : (qs : List ℕ) → map (λ (r : ChartRow). r.cube) (map (chart_row n t) qs) ≡ qs

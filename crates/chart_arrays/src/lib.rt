@@ -1,132 +1,92 @@
 // The chart: a row for each prime that serves, a column for each wanted code.
 //
-//     chart_arrays::cube_columns(2, &[1, 0, 2, 1], 2)     // cube 02 matches 0 and 1, of which 0 is wanted: the word 1
+//     let table = Table::new(2, &[1, 0, 2, 1])?;
+//     chart_arrays::cube_columns(table, 2)        // cube 02 matches 0 and 1, of which 0 is wanted: the word 1
 #![tactic(auto)]
 
-ghost use Rattle.std.specs.Prelude.{◌≡◌, ℕ, ◌+◌, ◌*◌, ◌<◌, ◌≤◌, ◌^◌, length, get_or};
-ghost use Rattle.numbers.specs.Below.{flag, word_of};
-ghost use Rattle.cube.specs.Calls.{widest};
-ghost use Rattle.cube.specs.Words.{tested, digit, cube_literals};
-ghost use Rattle.matrix.specs.Sets.{column_limit};
+ghost use Rattle.std.specs.Prelude.{◌≡◌, ◌==◌, ◌&&◌, ◌<◌, ◌^◌};
+ghost use Rattle.numbers.specs.Below.{word_of};
+ghost use Rattle.cube.specs.Words.{on_set, row_matches};
 ghost use Rattle.chart_arrays.specs.Columns.{columns_of};
-ghost use Rattle.chart_arrays.specs.Steps.{row_column, CodeNext, IsChart, Chartable};
+ghost use Rattle.chart_arrays.specs.Rows.{chart_row, chart_of};
+ghost use Rattle.chart_arrays.specs.Steps.{row_column};
 
+use arrayvec::ArrayVec;
+use cube::Row;
 use matrix::columns;
 use spelling::MOST_CUBES;
+use tables::Table;
 
-// The word with bit c, if code c is wanted and the row matches it.
-fn with_code(table: &[u8], value: usize, care: usize, c: usize, word: columns::Set) -> columns::Set
-    requires { CodeNext table.now c word }
-    ensures { result ≡ word + flag (row_column table.now value care c) * 2 ^ c }
-{
-    if table[c] != 1 {
-        return word;
-    }
-    if c & care != value {
-        return word;
-    }
-    columns::with_next(word, c)
+// A chart row: cube number, code word, tested bits, laid out as C would lay it out.
+#[repr(C)]
+#[derive(Clone, Copy, Default)]
+pub struct ChartRow {
+    pub cube: u16,
+    pub word: columns::Set,
+    pub literals: u8,
 }
 
-// The wanted codes that a row matches: all of them for value 0 and care 0.
-pub fn row_columns(table: &[u8], value: usize, care: usize) -> columns::Set
-    requires { length table.now ≤ column_limit }
-    ensures { result ≡ word_of (length table.now) (row_column table.now value care) }
+// Whether a cell is wanted and a row matches its code.
+#[tactic(auto, unfolding(cube::specs::Words::row_matches))]
+fn is_column(cell: u8, code: usize, row: Row) -> bool
+    ensures { result ≡ (cell == 1 && row_matches row code) }
+{
+    cell == 1 && code & row.care as usize == row.value as usize
+}
+
+// The wanted codes that a row matches.
+#[tactic(auto, using(crate::proofs::Columns::column_turn))]
+fn row_columns(table: Table, row: Row) -> columns::Set
+    ensures { result ≡ word_of (2 ^ table.entry.width) (row_column table.entry.cells.now row) }
 {
     let mut word = columns::NONE;
-    let mut c = 0;
-    while c < table.len() {
-        word = with_code(table, value, care, c, word);
-        c += 1;
+    for (code, cell) in table.cells.iter().enumerate() {
+        if is_column(*cell, code, row) {
+            word = word.with_next(code);
+        }
     }
     word
 }
 
+// The wanted codes: those that a row without tested bits matches.
+pub fn wanted(table: Table) -> columns::Set
+    ensures { result ≡ word_of (2 ^ table.entry.width) (on_set table.entry.cells.now) }
+{
+    row_columns(table, Row { value: 0, care: 0 })
+}
+
 // The wanted codes that cube q matches.
-pub fn cube_columns(n: usize, table: &[u8], q: usize) -> columns::Set
-    requires { (n ≤ widest) × (length table.now ≡ 2 ^ n) × (q < 3 ^ n) }
-    ensures { result ≡ columns_of n table.now q }
+pub fn cube_columns(table: Table, q: usize) -> columns::Set
+    requires { q < 3 ^ table.width }
+    ensures { result ≡ columns_of table.entry.width table.entry.cells.now q }
 {
-    row_columns(
-        table,
-        spelling::value(n, q) as usize,
-        spelling::care(n, q) as usize,
-    )
+    row_columns(table, spelling::row(table.width, q))
 }
 
-// One more if digit k of q is tested.
-fn with_digit(q: usize, k: usize, count: u8) -> u8
-    requires { (k < widest) × (count ≤ k) }
-    ensures { result ≡ count + flag (tested (digit k q)) }
+// The chart's row of cube q.
+fn row(table: Table, q: u16) -> ChartRow
+    requires { q < 3 ^ table.width }
+    ensures { result ≡ chart_row table.entry.width table.entry.cells.now q }
 {
-    if spelling::digit(q, k) == 2 {
-        return count;
-    }
-    count + 1
-}
-
-// The tested bits of a cube.
-fn literals(n: usize, q: usize) -> u8
-    requires { n ≤ widest }
-    ensures { result ≡ cube_literals n q }
-{
-    let mut count = 0u8;
-    let mut k = 0;
-    while k < n {
-        count = with_digit(q, k, count);
-        k += 1;
-    }
-    count
-}
-
-// Fills in the words of the first cubes.
-fn fill_words(n: usize, table: &[u8], cubes: &[u16], count: usize, words: &mut [u64])
-    requires { Chartable n table.now cubes.now count (length words.old) }
-    ensures { (i : ℕ) → i < count → get_or words.new i 0 ≡ columns_of n table.now (get_or cubes.now i 0) }
-{
-    let mut i = 0;
-    while i < count {
-        words[i] = cube_columns(n, table, cubes[i] as usize);
-        i += 1;
+    let cube = q as usize;
+    let word = cube_columns(table, cube);
+    let care = spelling::row(table.width, cube).care;
+    ChartRow {
+        cube: q,
+        word,
+        literals: care.count_ones() as u8,
     }
 }
 
-// Fills in the tested bits of the first cubes, place by place.
-fn fill_literals(n: usize, cubes: &[u16], count: usize, into: &mut [u8])
-    requires { (n ≤ widest) × (count ≤ length cubes.now) × (count ≤ length into.old) }
-    ensures { (i : ℕ) → i < count → get_or into.new i 0 ≡ cube_literals n (get_or cubes.now i 0) }
-{
-    let mut i = 0;
-    while i < count {
-        into[i] = literals(n, cubes[i] as usize);
-        i += 1;
-    }
-}
-
-// The chart on parallel arrays: how many rows there are, and place i of each array for the prime at place i of those that serve.
-#[derive(Clone, Copy)]
-pub struct Arrays {
-    pub rows: usize,
-    pub cubes: [u16; MOST_CUBES],
-    pub words: [u64; MOST_CUBES],
-    pub literals: [u8; MOST_CUBES],
-}
-
-// The chart of a table of n variables.
-pub fn build(n: usize, table: &[u8]) -> Arrays
-    requires { (n ≤ widest) × (length table.now ≡ 2 ^ n) }
-    ensures { IsChart n table.now result }
+// The chart of a table: its rows, in the order of the primes. These are listed in lent places first, as Primes lists them for C.
+pub fn build(table: Table) -> ArrayVec<ChartRow, MOST_CUBES>
+    ensures { result.items ≡ chart_of table.entry.width table.entry.cells.now }
 {
     let mut cubes = [0u16; MOST_CUBES];
-    let rows = primes::list_serving_primes(n, table, &mut cubes);
-    let mut words = [0u64; MOST_CUBES];
-    fill_words(n, table, &cubes, rows, &mut words);
-    let mut literals = [0u8; MOST_CUBES];
-    fill_literals(n, &cubes, rows, &mut literals);
-    Arrays {
-        rows,
-        cubes,
-        words,
-        literals,
+    let count = primes::list_serving_primes(table, &mut cubes);
+    let mut rows = ArrayVec::new();
+    for q in &cubes[..count] {
+        rows.push(row(table, *q));
     }
+    rows
 }

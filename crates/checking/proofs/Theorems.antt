@@ -11,7 +11,9 @@ use Rattle.numbers.proofs.Bools.{and_l, and_r, and_i, or_e, or_l, or_r, not_e, n
 use Rattle.numbers.proofs.Below.{Lowest, lowest_or_none}
 use Rattle.cube.proofs.Calls.{same_value}
 use Rattle.cube.proofs.Theorems.{not_barred, implements_on, implements_off, implements_by}
-use Rattle.checking.specs.Check.{check_refuses, Verdict, right, missed, stray, is_missed, is_stray, is_wrong, verdict, check_of}
+use Rattle.checking.specs.Check.{check_refuses, is_missed, is_stray, is_wrong, verdict, check_of}
+use Rattle.checking.specs.declared.Verdict.{Verdict}
+use Rattle.checking.specs.declared.Verdict.TheVariants.{Right, Missed, Stray}
 use Rattle.checking.specs.Theorems.{NamedMissed, NamedStray, CheckMeans}
 use Rattle.checking.proofs.Verdicts.{verdict_right, verdict-named}
 
@@ -39,9 +41,9 @@ module _ (n : ℕ) (t : List ℕ) (rs : Cover) where
 
   -- what a verdict says
   abbrev Says : Verdict → Type 0
-  Says right = T (implements n t rs)
-  Says (missed c) = NamedMissed n t rs c
-  Says (stray c) = NamedStray n t rs c
+  Says Right = T (implements n t rs)
+  Says (Missed c) = NamedMissed n t rs c
+  Says (Stray c) = NamedStray n t rs c
 
   -- of the lowest wrong code
   module _ (c : ℕ) (low : Lowest (2 ^ n) (is_wrong t rs) c) where
@@ -61,10 +63,10 @@ module _ (n : ℕ) (t : List ℕ) (rs : Cover) where
       lowest = low.none_lower;
     }
 
-    says_named : Says (cond (is_missed t rs c) (missed c) (stray c))
+    says_named : Says (cond (is_missed t rs c) (Missed c) (Stray c))
     says_named = go (is_missed t rs c) refl
       where
-        go : (b : Bool) → is_missed t rs c ≡ b → Says (cond b (missed c) (stray c))
+        go : (b : Bool) → is_missed t rs c ≡ b → Says (cond b (Missed c) (Stray c))
         go true e = says_missed (holds (is_missed t rs c) e)
         go false e =
             says_stray (⊎_elim (λ x. absurd (subst T e x)) (λ x. x) (or_e (is_missed t rs c) (is_stray t rs c) low.passes))
@@ -80,15 +82,15 @@ module _ (n : ℕ) (t : List ℕ) (rs : Cover) where
 
   is_verdict : (v : Verdict) → Says v → verdict n t rs ≡ v
   unfolding NoneWrong
-  is_verdict right h = verdict_right n t rs (implements_none h)
-  is_verdict (missed c) h =
+  is_verdict Right h = verdict_right n t rs (implements_none h)
+  is_verdict (Missed c) h =
       let x : T (is_missed t rs c) = and_i (on_set t c) (not (cover_matches rs c)) h.wanted (not_i (cover_matches rs c) h.unmatched) in
       verdict-named n t rs c (record { below = h.code; passes = or_l (is_missed t rs c) (is_stray t rs c) x; none_lower = h.lowest })
-      ∙ ap (λ (b : Bool). cond b (missed c) (stray c)) (is_true (is_missed t rs c) x)
-  is_verdict (stray c) h =
+      ∙ ap (λ (b : Bool). cond b (Missed c) (Stray c)) (is_true (is_missed t rs c) x)
+  is_verdict (Stray c) h =
       let x : T (is_stray t rs c) = and_i (off_set t c) (cover_matches rs c) h.barred h.matched in
       verdict-named n t rs c (record { below = h.code; passes = or_r (is_missed t rs c) (is_stray t rs c) x; none_lower = h.lowest })
-      ∙ ap (λ (b : Bool). cond b (missed c) (stray c)) (stray_not_missed c h.barred)
+      ∙ ap (λ (b : Bool). cond b (Missed c) (Stray c)) (stray_not_missed c h.barred)
 
 module _ (n : ℕ) (t vs ws : List ℕ) (e : check_refuses n t vs ws ≡ 0) where
   answer_is : check_of n t vs ws ≡ gives (verdict n t (rows_of vs ws))
@@ -101,4 +103,4 @@ module _ (n : ℕ) (t vs ws : List ℕ) (e : check_refuses n t vs ws ≡ 0) wher
   when_so v = (λ h. subst (Says n t (rows_of vs ws)) (same_verdict v h) (says n t (rows_of vs ws)), λ h. answer_is ∙ ap gives (is_verdict n t (rows_of vs ws) v h))
 
   pub check_means : CheckMeans n t vs ws e
-  check_means = record { right_when = when_so right; missed_when = λ c. when_so (missed c); stray_when = λ c. when_so (stray c) }
+  check_means = record { right_when = when_so Right; missed_when = λ c. when_so (Missed c); stray_when = λ c. when_so (Stray c) }

@@ -3,19 +3,13 @@
 use Rattle.std.specs.Prelude.{ℕ, ◌^◌, Bool, cond, not, ◌&&◌, ◌||◌, List, [], ◌∷◌, ◌++◌}
 use Rattle.numbers.specs.Below.{those}
 use Rattle.cube.specs.Words.{on_set, off_set, Cover, cover_matches, rows_of}
-use Rattle.cube.specs.Calls.{first_of, table_conditions, list_conditions, Answer, refuses, gives, answered}
-use Rattle.checking.specs.declared.Checked.{Checked}
-use Rattle.checking.specs.declared.Checked.TheVariants.{Right, Missed, Stray, Refused}
+use Rattle.cube.specs.Calls.{first_of, table_conditions, list_conditions, Answer, answered}
+use Rattle.checking.specs.declared.Verdict.{Verdict}
+use Rattle.checking.specs.declared.Verdict.TheVariants.{Right, Missed, Stray}
 
 -- the number that Check refuses with, or 0
 abbrev pub check_refuses : ℕ → List ℕ → List ℕ → List ℕ → ℕ
 check_refuses n t vs ws = first_of (table_conditions n t ++ list_conditions n vs ws)
-
--- "Answers right; missed with a code [..]; or stray with a code"
-pub data Verdict : Type 0 where
-  right : Verdict
-  missed : ℕ → Verdict
-  stray : ℕ → Verdict
 
 -- "missed with a code (wanted, unmatched)"
 abbrev pub is_missed : List ℕ → Cover → ℕ → Bool
@@ -29,10 +23,10 @@ is_stray t rs c = off_set t c && cover_matches rs c
 abbrev pub is_wrong : List ℕ → Cover → ℕ → Bool
 is_wrong t rs c = is_missed t rs c || is_stray t rs c
 
--- "the lowest wrong code is named": of the wrong codes, ascending, the first
+-- "Answers right; missed with a code [..]; or stray with a code", "the lowest wrong code is named": of the wrong codes, ascending, the first
 abbrev pub named : List ℕ → Cover → List ℕ → Verdict
-named t rs [] = right
-named t rs (c ∷ cs) = cond (is_missed t rs c) (missed c) (stray c)
+named t rs [] = Right
+named t rs (c ∷ cs) = cond (is_missed t rs c) (Missed c) (Stray c)
 
 -- what Check says of a table and a list that it does not refuse
 unfoldable pub verdict : ℕ → List ℕ → Cover → Verdict
@@ -41,10 +35,3 @@ verdict n t rs = named t rs (those (2 ^ n) (is_wrong t rs))
 -- what Check answers
 abbrev pub check_of : ℕ → List ℕ → List ℕ → List ℕ → Answer Verdict
 check_of n t vs ws = answered (check_refuses n t vs ws) (verdict n t (rows_of vs ws))
-
--- the paper's number and value for each case of the answer
-abbrev pub check_answer : Checked → Answer Verdict
-check_answer Right = gives right
-check_answer (Missed c) = gives (missed c)
-check_answer (Stray c) = gives (stray c)
-check_answer (Refused k) = refuses k

@@ -2,7 +2,8 @@
 use Rattle.std.specs.Prelude.{◌≡◌, ◌↔◌, List, ℕ, ◌^◌, ◌<◌, T}
 use Rattle.cube.specs.Words.{on_set, off_set, Cover, cover_matches, implements, rows_of}
 use Rattle.cube.specs.Calls.{gives}
-use Rattle.checking.specs.Check.{check_refuses, right, missed, stray, is_wrong, check_of}
+use Rattle.checking.specs.Check.{check_refuses, is_wrong, check_of}
+use Rattle.checking.specs.declared.Verdict.TheVariants.{Right, Missed, Stray}
 
 -- no code below c is wrong
 abbrev pub NoneLower : List ℕ → Cover → ℕ → Type 0
@@ -25,8 +26,8 @@ pub record NamedStray (n : ℕ) (t : List ℕ) (rs : Cover) (c : ℕ) : Type 0 w
 -- the answer to a call that is not refused
 pub record CheckMeans (n : ℕ) (t vs ws : List ℕ) (accepted : check_refuses n t vs ws ≡ 0) : Type 0 where
   -- "A list that isn't refused passes our check exactly when it matches every wanted mark and no barred one."
-  pub right_when : check_of n t vs ws ≡ gives right ↔ T (implements n t (rows_of vs ws))
+  pub right_when : check_of n t vs ws ≡ gives Right ↔ T (implements n t (rows_of vs ws))
   -- "missed with a code (wanted, unmatched)", "the lowest wrong code is named"
-  pub missed_when : (c : ℕ) → check_of n t vs ws ≡ gives (missed c) ↔ NamedMissed n t (rows_of vs ws) c
+  pub missed_when : (c : ℕ) → check_of n t vs ws ≡ gives (Missed c) ↔ NamedMissed n t (rows_of vs ws) c
   -- "stray with a code (barred, matched)"
-  pub stray_when : (c : ℕ) → check_of n t vs ws ≡ gives (stray c) ↔ NamedStray n t (rows_of vs ws) c
+  pub stray_when : (c : ℕ) → check_of n t vs ws ≡ gives (Stray c) ↔ NamedStray n t (rows_of vs ws) c

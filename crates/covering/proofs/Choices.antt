@@ -2,17 +2,14 @@
 -- cover. Assumes nothing.
 use mathlib.Core.Path.{◌≡◌, refl, sym, ◌∙◌}
 use mathlib.Core.Bool.{Bool, false, ◌||◌}
-use Prim.Native.Nat.{ℕ, ◌+◌, ◌*◌, ◌≤◌, ◌<◌}
+use Prim.Native.Nat.{ℕ, ◌+◌, ◌≤◌, ◌<◌}
 use native.Mathlib.Omega.{arith}
-use lib.Dec.{ltb}
-use borrow.Author.Tests.{lt-ltb}
 use Rattle.numbers.specs.Below.{those}
-use Rattle.covering.specs.Sum.{if_set}
-use Rattle.covering.specs.Weighted.{weight, AtLeast, LeastCover, SetCovers}
+use Rattle.covering.specs.Weighted.{AtLeast, LeastCover, SetCovers}
 use Rattle.covering.specs.Search.{none, Reduced, Answers}
 use Rattle.numbers.proofs.Flags.{not_set}
-use Rattle.covering.proofs.Sums.{sum_most, sum_skip, if_set_le, if_set_false}
-use Rattle.covering.proofs.Bounds.{within_mono, nothing, smaller, branch}
+use Rattle.covering.proofs.Sums.{sum_skip, if_set_false}
+use Rattle.covering.proofs.Bounds.{within_mono, nothing, branch}
 use Rattle.covering.proofs.Sets.{rows_within, rows_hit, rows_weight}
 use Rattle.covering.proofs.Reductions.{cover_same, cover_nothing}
 
@@ -22,10 +19,6 @@ module _ (cov : ℕ → ℕ → Type 0) (w : ℕ → ℕ) (n : ℕ) where
   -- no column is left
   pub answer_nothing : {A U : ℕ → Type 0} (limit : ℕ) → ((c : ℕ) → U c → ⊥) → Answers cov w n A U limit 0 none
   answer_nothing limit e = record { low = nothing cov; within = omega arith; cover = λ l. cover_nothing cov w n e }
-
-  -- no cover is below the limit
-  pub answer_none : {A U : ℕ → Type 0} {limit k : ℕ} (p : ℕ → Bool) → AtLeast cov w A U k → limit ≤ k → Answers cov w n A U limit limit p
-  answer_none p b l = record { low = smaller cov l b; within = omega arith; cover = λ h. absurd (omega arith) }
 
   -- after a reduction
   pub answer_reduced : {A A' U U' : ℕ → Type 0} {t p q : ℕ → Bool} {a k limit room : ℕ} → Reduced cov w n A U A' U' t a → room + a ≡ limit
@@ -52,30 +45,18 @@ module _ (cov : ℕ → ℕ → Type 0) (w : ℕ → ℕ) (n : ℕ) where
 
 -- ---- a whole search
 
--- An answer is a minimum cover, where the rows are those below n, each column has one, and all of them together weigh less than the limit.
-pub minimum : (cov : ℕ → ℕ → Type 0) (w : ℕ → ℕ) (N n m : ℕ) {A U : ℕ → Type 0} {limit k : ℕ} {p : ℕ → Bool} → n ≤ N → ((i : ℕ) → A i → i < n) → ((i : ℕ) → i < n → A i)
-    → ((c : ℕ) → U c → (i : ℕ) × (i < n) × cov i c) → ((i : ℕ) → w i ≤ m) → n * m < limit → Answers cov w N A U limit k p
-    → LeastCover cov w (λ i. i < n) U (those n p) k
-minimum cov w N n m {A} {U} {limit} {k} {p} le below all row most l f = record {
+-- An answer below the limit is a minimum cover, where the rows are those below n.
+pub minimum : (cov : ℕ → ℕ → Type 0) (w : ℕ → ℕ) (N n : ℕ) {A U : ℕ → Type 0} {limit k : ℕ} {p : ℕ → Bool} → n ≤ N → ((i : ℕ) → A i → i < n) → ((i : ℕ) → i < n → A i)
+    → k < limit → Answers cov w N A U limit k p → LeastCover cov w (λ i. i < n) U (those n p) k
+minimum cov w N n {A} {U} {limit} {k} {p} le below all l f = record {
   within = rows_within (λ i. i < n) n p (λ i l e. l);
   covers = λ c u. let t = found.covers c u in rows_hit cov c n p t.0 (below t.0 (found.live t.0 t.1)) t.1 t.2;
   weighs = rows_weight w n p ∙ sym (sum_skip n N le (λ i h o. if_set_false (w i) (past i h))) ∙ found.weighs;
   least = λ M h s. f.low.bound M (within_mono all M h) s;
 }
   where
-    every : ℕ → Bool
-    every i = ltb i n
-
-    light : weight w (those n every) ≤ n * m
-    light = omega (arith, rows_weight w n every, sum_most n m {f = λ i. if_set (every i) (w i)} (λ i. omega (arith, if_set_le (every i) (w i), most i)))
-
     found : SetCovers cov w N A U p k
-    found = f.cover (omega (
-      arith,
-      light,
-      f.low.bound (those n every) (rows_within A n every (λ i l e. all i l))
-          (λ c u. let t = row c u in rows_hit cov c n every t.0 t.1 (lt-ltb t.0 n t.1) t.2),
-    ))
+    found = f.cover l
 
     past : (i : ℕ) → n ≤ i → p i ≡ false
     past i h = not_set (p i) (λ e. let b = below i (found.live i e) in omega arith)

@@ -1,19 +1,20 @@
 -- What the calls share: the first condition that holds, and conditions after others; a width, a table and a list that are not refused; what an answer
 -- tells; and the two ways in which a call that writes a list ends. Assumes nothing.
-use mathlib.Core.Path.{◌≡◌, refl, sym, ap, ap₂, ◌∙◌, subst}
-use mathlib.Core.Bool.{Bool, true, false, cond, not, ◌&&◌, ◌||◌, or-true, true≢false}
+use mathlib.Core.Path.{◌≡◌, refl, sym, ap, ap₂, ◌∙◌}
+use mathlib.Core.Bool.{Bool, true, false, cond, not, ◌&&◌, ◌||◌, true≢false}
 use mathlib.Core.List.{List, [], ◌∷◌, ◌++◌}
 use Prim.Native.Nat.{ℕ, zero, suc, ◌-◌, ◌^◌, ◌<◌, ◌≤◌}
 use native.Mathlib.Nat.{pow-le-pow_right}
 use native.Mathlib.Omega.{arith}
-use lib.Dec.{T, eqb, ltb, lit<}
+use lib.Dec.{T, eqb, lit<}
 use lib.ListN.{length, take, drop}
 use lib.Pow.{pow_mono}
-use borrow.Author.Tests.{ltb-false, lt-ltb, le-ltb, eq-eqb, eqb-true, not-false}
+use Rattle.std.specs.Prelude.{Result, Ok, Err}
+use Rattle.std.proofs.lemmas.Bool.Decides.{nat_tests}
+use borrow.Author.Tests.{le-ltb, eq-eqb}
 use Rattle.cube.specs.Words.{rows_of, essential, essentials_of, serving_prime, serving_primes_of}
-use Rattle.cube.specs.Calls.{widest, bad_width, bad_length, bad_cell, short, unequal_lengths, most_rows, too_many_rows, bad_row, Condition, when, first_of, table_conditions, list_conditions, Answer, refuses, gives, answered, written, count_answer, Listed}
-use Rattle.cube.specs.declared.Counted.{Counted}
-use Rattle.cube.specs.declared.Counted.TheVariants.{Count, Refused}
+use Rattle.cube.specs.Calls.{widest, bad_width, bad_length, bad_cell, short, unequal_lengths, most_rows, bad_row, Condition, when, first_of, table_conditions, list_conditions, Answer, refuses, gives, answered, written, refusal_number, answer_of, Listed}
+use Rattle.cube.specs.declared.Refusal.{Refusal}
 use Rattle.numbers.specs.Lent.{Puts}
 use Rattle.numbers.proofs.Bools.{and_l, and_r, not_e, eqb_of}
 use Rattle.numbers.proofs.Below.{those-length}
@@ -26,11 +27,8 @@ pub neither : (a b : Bool) → (a || b) ≡ false → (a ≡ false) × (b ≡ fa
 neither false b e = (refl, e)
 neither true b e = absurd (true≢false e)
 
-width_from : (n : ℕ) → bad_width n ≡ false → 1 ≤ n
-width_from n e = ltb-false n 1 (neither (ltb n 1) (ltb widest n) e).0
-
 pub width_to : (n : ℕ) → bad_width n ≡ false → n ≤ widest
-width_to n e = ltb-false widest n (neither (ltb n 1) (ltb widest n) e).1
+width_to n e = grind (arith, nat_tests)
 
 pub codes_most : (n : ℕ) → n ≤ widest → 2 ^ n ≤ 2 ^ widest
 codes_most n l = pow_mono l
@@ -99,6 +97,19 @@ none_in_front xs ys e = go (first_of xs) refl
     go zero a = a
     go (suc k) a = absurd (let z : suc k ≡ 0 = sym (conditions_refuse xs ys k a) ∙ e in omega arith)
 
+-- ---- the numbers of refusals
+
+-- they are from 1 on
+pub refusal_from : (e : Refusal) → 0 < refusal_number e
+refusal_from e = grind arith
+
+-- and each is the number of one refusal
+pub same_refusal : (d e : Refusal) → refusal_number d ≡ refusal_number e → d ≡ e
+same_refusal d e h = grind arith
+
+-- what tells of refusals, for `grind`: their numbers are from 1 on, and what the tests of conditions say
+pub ruleset refusals = (nat_tests, refusal_from)
+
 -- as code tells it: what those in front refuse with, if it is not 0, is what all refuse with
 pub front_refuses : (xs ys : List Condition) (k : ℕ) → k ≡ first_of xs → (k ≡ 0 → ⊥) → k ≡ first_of (xs ++ ys)
 front_refuses xs ys zero e h = absurd (h refl)
@@ -123,19 +134,9 @@ module _ (xs : List Condition) (n : T (numbered xs)) (b : Bool) (m : ℕ) where
   last_none e =
       let front = none_in_front xs (when b (suc m) ∷ []) e in (front, (none_first b m 0 (sym (conditions_pass xs (when b (suc m) ∷ []) n front) ∙ e)).0)
 
--- two lent arrays, either of which may be too short
-module _ (a b needed : ℕ) where
-  pub first_short : a < needed → (short a needed || short b needed) ≡ true
-  first_short l = ap (λ (x : Bool). x || short b needed) (lt-ltb a needed l)
-
-  pub second_short : b < needed → (short a needed || short b needed) ≡ true
-  second_short l = ap (λ (x : Bool). short a needed || x) (lt-ltb b needed l) ∙ or-true (short a needed)
-
-  pub neither_short : needed ≤ a → needed ≤ b → (short a needed || short b needed) ≡ false
-  neither_short l m = ap₂ ◌||◌ (le-ltb a needed l) (le-ltb b needed m)
-
-  pub both_long : (short a needed || short b needed) ≡ false → (needed ≤ a) × (needed ≤ b)
-  both_long e = let long = neither (short a needed) (short b needed) e in (ltb-false a needed long.0, ltb-false b needed long.1)
+-- two lent arrays, neither of which is too short
+pub neither_short : (a b needed : ℕ) → needed ≤ a → needed ≤ b → (short a needed || short b needed) ≡ false
+neither_short a b needed l m = ap₂ ◌||◌ (le-ltb a needed l) (le-ltb b needed m)
 
 -- ---- a table that is not refused
 
@@ -146,14 +147,7 @@ pub record Accepted (n : ℕ) (t : List ℕ) : Type 0 where
 
 module _ (n : ℕ) (t : List ℕ) where
   pub accepted : first_of (table_conditions n t) ≡ 0 → Accepted n t
-  accepted e =
-      let a = none_first (bad_width n) 0 _ e in
-      let b = none_first (bad_length n t) 1 _ a.1 in
-      record {
-        from = width_from n a.0;
-        to = width_to n a.0;
-        cells = eqb-true (length t) (2 ^ n) (not-false (eqb (length t) (2 ^ n)) b.0);
-      }
+  accepted e = record { from = grind (arith, refusals); to = grind (arith, refusals); cells = grind (arith, refusals) }
 
   -- a table of 2^n cells is refused for a cell alone
   pub cells_left : bad_width n ≡ false → length t ≡ 2 ^ n → first_of (table_conditions n t) ≡ first_of (when (bad_cell t) 3 ∷ [])
@@ -161,14 +155,10 @@ module _ (n : ℕ) (t : List ℕ) where
       first_passes (bad_width n) 1 (when (bad_length n t) 2 ∷ when (bad_cell t) 3 ∷ []) w
       ∙ first_passes (bad_length n t) 2 (when (bad_cell t) 3 ∷ []) (ap not (eq-eqb (length t) (2 ^ n) e))
 
-  -- the conditions of a call after those of the table
-  pub table_passes : (rest : List Condition) → first_of (table_conditions n t) ≡ 0 → first_of (table_conditions n t ++ rest) ≡ first_of rest
-  table_passes rest e = conditions_pass (table_conditions n t) rest tt e
-
 -- ---- a list that is not refused
 
 pub equal_lengths : (vs ws : List ℕ) → unequal_lengths vs ws ≡ false → length vs ≡ length ws
-equal_lengths vs ws e = eqb-true (length vs) (length ws) (not-false (eqb (length vs) (length ws)) e)
+equal_lengths vs ws e = grind (arith, refusals)
 
 pub record AcceptedList (n : ℕ) (vs ws : List ℕ) : Type 0 where
   pub equal : length vs ≡ length ws
@@ -176,24 +166,12 @@ pub record AcceptedList (n : ℕ) (vs ws : List ℕ) : Type 0 where
   pub formed : bad_row n (rows_of vs ws) ≡ false
 
 pub accepted_list : (n : ℕ) (vs ws : List ℕ) → first_of (list_conditions n vs ws) ≡ 0 → AcceptedList n vs ws
-accepted_list n vs ws e =
-    let rs = rows_of vs ws in
-    let a = none_first (unequal_lengths vs ws) 4 _ e in
-    let b = none_first (too_many_rows (length rs)) 5 _ a.1 in
-    record {
-      equal = equal_lengths vs ws a.0;
-      few = ltb-false most_rows (length rs) b.0;
-      formed = (none_first (bad_row n rs) 6 _ b.1).0;
-    }
+accepted_list n vs ws e = record { equal = grind (arith, refusals); few = grind (arith, refusals); formed = grind (arith, refusals) }
 
 -- ---- answers
 
-abbrev Refuses : {A : Type 0} → Answer A → Type 0
-Refuses (refuses k) = Unit
-Refuses (gives a) = ⊥
-
 pub refuses_gives : {A : Type 0} (k : ℕ) (a : A) → refuses k ≡ gives a → ⊥
-refuses_gives k a e = subst Refuses e tt
+refuses_gives k a e = cc
 
 pub same_number : {A : Type 0} (j k : ℕ) → ◌≡◌ {A = Answer A} (refuses j) (refuses k) → j ≡ k
 same_number j k e = cc
@@ -203,32 +181,43 @@ same_value a b e = cc
 
 -- an answer by the refusal's number: values where it is 0, otherwise that number alone
 pub answered_gives : {A : Type 0} (k : ℕ) (a b : A) → gives a ≡ answered k b → (k ≡ 0) × (a ≡ b)
-answered_gives zero a b e = (refl, same_value a b e)
-answered_gives (suc k) a b e = absurd (refuses_gives (suc k) a (sym e))
+answered_gives zero a b e = (refl, cc)
+answered_gives (suc k) a b e = absurd cc
 
 pub answered_refuses : {A : Type 0} (j k : ℕ) (b : A) → refuses j ≡ answered k b → (k ≡ j) × (k ≡ 0 → ⊥)
-answered_refuses j zero b e = absurd (refuses_gives j b e)
-answered_refuses j (suc k) b e = (sym (same_number j (suc k) e), λ z. omega arith)
+answered_refuses j zero b e = absurd cc
+answered_refuses j (suc k) b e = (cc, λ z. omega arith)
+
+-- a call that gives a value, and one that refuses
+pub gives_answered : {A : Type 0} {k : ℕ} (a : A) → 0 ≡ k → answer_of (Ok a) ≡ answered k a
+gives_answered a e = ap (λ (i : ℕ). answered i a) e
+
+pub refuses_answered : {A : Type 0} {k : ℕ} (e : Refusal) (a : A) → refusal_number e ≡ k → answer_of {A = A} (Err e) ≡ answered k a
+refuses_answered e a h = go (refusal_number e) (refusal_from e) ∙ ap (λ (i : ℕ). answered i a) h
+  where
+    go : (k : ℕ) → 0 < k → refuses k ≡ answered k a
+    go zero l = absurd (omega arith)
+    go (suc k) l = refl
 
 -- ---- a call that writes a list
 
 -- two calls that keep one promise leave and answer the same
-same_answer : (r s : Counted) → count_answer r ≡ count_answer s → r ≡ s
-same_answer (Count j) (Count k) e = ap Count (same_value j k e)
-same_answer (Refused j) (Refused k) e = ap Refused (same_number j k e)
-same_answer (Count j) (Refused k) e = absurd (refuses_gives k j (sym e))
-same_answer (Refused j) (Count k) e = absurd (refuses_gives j k e)
+same_answer : (r s : Result ℕ Refusal) → answer_of r ≡ answer_of s → r ≡ s
+same_answer (Ok j) (Ok k) h = cc
+same_answer (Err d) (Err e) h = ap Err (same_refusal d e (same_number (refusal_number d) (refusal_number e) h))
+same_answer (Ok j) (Err e) h = cc
+same_answer (Err e) (Ok k) h = cc
 
-pub listed_alike : {A : Type 0} {refusal : ℕ} {list old new other : List A} (r s : Counted) → Listed refusal list old new r → Listed refusal list old other s
+pub listed_alike : {A : Type 0} {refusal : ℕ} {list old new other : List A} (r s : Result ℕ Refusal) → Listed refusal list old new r → Listed refusal list old other s
     → (new ≡ other) × (r ≡ s)
 listed_alike r s p q = (p.places ∙ sym q.places, same_answer r s (p.answer ∙ sym q.answer))
 
--- where it answers a refusal's number, that is what it refuses with
-pub listed_number : {A : Type 0} {refusal : ℕ} {list old new : List A} (k : ℕ) → Listed refusal list old new (Refused k) → refusal ≡ k
-listed_number {refusal = refusal} {list = list} k p = (answered_refuses k refusal (length list) p.answer).0
+-- where it answers a refusal, its number is what it refuses with
+pub listed_number : {A : Type 0} {refusal : ℕ} {list old new : List A} (e : Refusal) → Listed refusal list old new (Err e) → refusal ≡ refusal_number e
+listed_number {refusal = refusal} {list = list} e p = (answered_refuses (refusal_number e) refusal (length list) p.answer).0
 
 -- where it answers a count, nothing refuses, and the list is in the first places, as many as the count
-module _ {A : Type 0} {refusal : ℕ} {list old new : List A} {k : ℕ} (p : Listed refusal list old new (Count k)) where
+module _ {A : Type 0} {refusal : ℕ} {list old new : List A} {k : ℕ} (p : Listed refusal list old new (Ok k)) where
   pub none_refuses : refusal ≡ 0
   none_refuses = (answered_gives refusal k (length list) p.answer).0
 
@@ -245,21 +234,25 @@ module _ {A : Type 0} {refusal : ℕ} {list old new : List A} {k : ℕ} (p : Lis
   listed_behind = front_behind list old listed_count stands
 
 -- where nothing refuses, it answers a count
-pub listed_counts : {A : Type 0} {refusal : ℕ} {list old new : List A} (r : Counted) → refusal ≡ 0 → Listed refusal list old new r → (k : ℕ) × (r ≡ Count k)
-listed_counts (Count k) e p = (k, refl)
-listed_counts {refusal = refusal} {list} (Refused k) e p = absurd ((answered_refuses k refusal (length list) p.answer).1 e)
+pub listed_counts : {A : Type 0} {refusal : ℕ} {list old new : List A} (r : Result ℕ Refusal) → refusal ≡ 0 → Listed refusal list old new r → (k : ℕ) × (r ≡ Ok k)
+listed_counts (Ok k) e p = (k, refl)
+listed_counts {refusal = refusal} {list} (Err d) e p = absurd ((answered_refuses (refusal_number d) refusal (length list) p.answer).1 e)
 
 -- it refuses, and leaves the places as they were
-pub listed_refused : {refusal : ℕ} {list old : List ℕ} (k : ℕ) → refusal ≡ suc k → Listed refusal list old old (Refused (suc k))
-listed_refused {list = list} {old = old} k e = record {
-  answer = ap (λ (i : ℕ). answered i (length list)) (sym e);
-  places = ap (λ (i : ℕ). written i list old) (sym e);
+pub listed_refused : {A : Type 0} {refusal : ℕ} {list old : List A} (e : Refusal) → refusal_number e ≡ refusal → Listed refusal list old old (Err e)
+listed_refused {list = list} {old = old} e h = record {
+  answer = refuses_answered e (length list) h;
+  places = go (refusal_number e) (refusal_from e) ∙ ap (λ (i : ℕ). written i list old) h;
 }
+  where
+    go : (k : ℕ) → 0 < k → old ≡ written k list old
+    go zero l = absurd (omega arith)
+    go (suc k) l = refl
 
 -- it writes the list from the first place
-pub listed_done : {refusal : ℕ} {list old new : List ℕ} {count : ℕ} → refusal ≡ 0 → Puts list old 0 new count → length list ≤ length old
-    → Listed refusal list old new (Count count)
+pub listed_done : {refusal : ℕ} {list old new : List ℕ} {count : ℕ} → 0 ≡ refusal → Puts list old 0 new count → length list ≤ length old
+    → Listed refusal list old new (Ok count)
 listed_done {list = list} {old = old} e p l = record {
-  answer = ap (answered 0) (front_count p) ∙ ap (λ (i : ℕ). answered i (length list)) (sym e);
-  places = front_places p l ∙ ap (λ (i : ℕ). written i list old) (sym e);
+  answer = ap gives (front_count p) ∙ gives_answered (length list) e;
+  places = front_places p l ∙ ap (λ (i : ℕ). written i list old) e;
 }

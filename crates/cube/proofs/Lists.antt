@@ -1,13 +1,11 @@
 -- A list of rows in two arrays, place by place: row i is place i of each, so that a loop over the places finds what the list's own recursion
--- says; and the first rows of two arrays, with one more row, and how many there are. Assumes nothing.
+-- says. Assumes nothing.
 use mathlib.Core.Path.{◌≡◌, refl, sym, ap, ◌∙◌}
 use mathlib.Core.Bool.{Bool, true, false, not, ◌||◌}
-use mathlib.Core.List.{List, [], ◌∷◌, ◌++◌}
-use Prim.Native.Nat.{ℕ, zero, suc, ◌<◌, ◌≤◌}
-use native.Mathlib.Nat.{not-suc-le-zero, le_of_suc-le-suc}
+use mathlib.Core.List.{List, [], ◌∷◌}
+use Prim.Native.Nat.{ℕ, suc, ◌<◌}
 use native.Mathlib.Omega.{arith}
-use lib.ListN.{length, take, get_or}
-use lib.Seq.{length-take-le}
+use lib.ListN.{length, get_or}
 use Rattle.numbers.specs.Below.{some}
 use Rattle.cube.specs.Words.{Row, Cover, row_matches, formed, each_row, cover_matches, rows_of}
 use Rattle.cube.specs.Calls.{bad_row}
@@ -61,19 +59,3 @@ module _ (n : ℕ) (vs ws : List ℕ) (e : length vs ≡ length ws) where
 
   pub bad_none : ((i : ℕ) → i < length vs → not (formed n (row_in vs ws i)) ≡ false) → bad_row n (rows_of vs ws) ≡ false
   bad_none f = bad_place n vs ws e ∙ some_none (length vs) (λ i. not (formed n (row_in vs ws i))) f
-
--- ---- the first rows
-
--- "row i is place i of the value array with place i of the care array."
-pub rows_more : (i : ℕ) (vs ws : List ℕ) → i < length vs → i < length ws
-    → rows_of (take (suc i) vs) (take (suc i) ws) ≡ rows_of (take i vs) (take i ws) ++ (record { value = get_or vs i 0; care = get_or ws i 0 } ∷ [])
-unfolding rows_of
-rows_more i [] ws l m = absurd (not-suc-le-zero l)
-rows_more i (v ∷ vs) [] l m = absurd (not-suc-le-zero m)
-rows_more zero (v ∷ vs) (w ∷ ws) l m = refl
-rows_more (suc i) (v ∷ vs) (w ∷ ws) l m =
-    ap (λ (rs : Cover). record { value = v; care = w } ∷ rs) (rows_more i vs ws (le_of_suc-le-suc l) (le_of_suc-le-suc m))
-
-pub rows_first : (i : ℕ) (vs ws : List ℕ) → i ≤ length vs → i ≤ length ws → length (rows_of (take i vs) (take i ws)) ≡ i
-rows_first i vs ws l m =
-    rows_length (take i vs) (take i ws) (length-take-le i vs l ∙ sym (length-take-le i ws m)) ∙ length-take-le i vs l

@@ -1,10 +1,10 @@
 -- What the calls share: the numbers of refusals with their conditions, an answer, and what is left in a lent place.
 -- The greatest width and the most rows of a list are given here once. Assumes nothing.
-use Rattle.std.specs.Prelude.{◌≡◌, ℕ, zero, suc, ◌^◌, Bool, cond, not, ◌||◌, List, [], ◌∷◌, ◌++◌, eqb, ltb, leb, length, drop}
+use Rattle.std.specs.Prelude.{◌≡◌, ℕ, zero, suc, ◌^◌, Bool, cond, not, ◌||◌, List, [], ◌∷◌, ◌++◌, Result, Ok, Err, eqb, ltb, leb, length, drop}
 use Rattle.numbers.specs.Below.{some}
 use Rattle.cube.specs.Words.{cell, Cover, all_formed, rows_of}
-use Rattle.cube.specs.declared.Counted.{Counted}
-use Rattle.cube.specs.declared.Counted.TheVariants.{Count, Refused}
+use Rattle.cube.specs.declared.Refusal.{Refusal}
+use Rattle.cube.specs.declared.Refusal.TheVariants.{Width, TableLength, Cell, ShortOutput, UnequalLengths, TooManyRows, UnformedRow, CubeNumber, Text, FileLength}
 
 -- "Width n is 1 to 6."
 abbrev pub widest : ℕ
@@ -88,12 +88,30 @@ abbrev pub written : {A : Type 0} → ℕ → List A → List A → List A
 written zero new old = new ++ drop (length new) old
 written (suc k) new old = old
 
--- the paper's number and value for each case of a count
-abbrev pub count_answer : Counted → Answer ℕ
-count_answer (Count k) = gives k
-count_answer (Refused k) = refuses k
+-- the paper's number of a refusal
+abbrev pub refusal_number : Refusal → ℕ
+refusal_number Width = 1
+refusal_number TableLength = 2
+refusal_number Cell = 3
+refusal_number ShortOutput = 4
+refusal_number UnequalLengths = 5
+refusal_number TooManyRows = 6
+refusal_number UnformedRow = 7
+refusal_number CubeNumber = 8
+refusal_number Text = 9
+refusal_number FileLength = 10
+
+-- the number that a call refused with, or 0 where it did not
+abbrev pub refusal_of : {A : Type 0} → Result A Refusal → ℕ
+refusal_of (Ok a) = 0
+refusal_of (Err r) = refusal_number r
+
+-- what a call answers, by the value that it gives or the number that it refused with
+abbrev pub answer_of : {A : Type 0} → Result A Refusal → Answer A
+answer_of (Ok a) = gives a
+answer_of (Err r) = refuses (refusal_number r)
 
 -- What a call that writes a list and answers its length promises about the answer and the lent places, refused input included.
-pub record Listed {A : Type 0} (refusal : ℕ) (list old new : List A) (r : Counted) : Type 0 where
-  pub answer : count_answer r ≡ answered refusal (length list)
+pub record Listed {A : Type 0} (refusal : ℕ) (list old new : List A) (r : Result ℕ Refusal) : Type 0 where
+  pub answer : answer_of r ≡ answered refusal (length list)
   pub places : new ≡ written refusal list old

@@ -5,6 +5,7 @@
 use Rattle.std.specs.Prelude.{ℕ, zero, suc, ◌+◌, ◌*◌, ◌^◌, ◌/◌, ◌%◌, Bool, true, false, cond, not, ◌&&◌, ◌||◌, List, [], ◌∷◌, eqb, ltb, get_or, take}
 use Rattle.std.specs.Int.Bits.{bit_and}
 use Rattle.numbers.specs.Below.{flag, every, some, those}
+use Rattle.cube.specs.declared.Row as declared
 
 -- ---- tables
 
@@ -26,10 +27,9 @@ dont_care t c = eqb (cell t c) 2
 
 -- ---- rows and lists of rows
 
--- "A row is a value byte and a care byte." (a product term)
-pub record Row : Type 0 where
-  pub value : ℕ
-  pub care : ℕ
+-- "A row is a value byte and a care byte." (a product term): the struct of the code, with the fields `value` and `care`
+abbrev pub Row : Type 0
+Row = declared.Row
 
 -- "A row matches code c when (c AND care) equals value."
 unfoldable pub row_matches : Row → ℕ → Bool

@@ -1,15 +1,52 @@
-// The words of document 01 are in specs/, their laws in proofs/. The one piece of code, which every layer shares, is the
-// answer of the calls that count: Cells, Primes, Chart, Essentials and Write.
+// The words of document 01 are in specs/, their laws in proofs/. The code is what every layer shares: a row, and why a call refuses.
 //
-//     match cells::cells(4, 53, &mut codes) {
-//         Counted::Count(k) => k,
-//         Counted::Refused(number) => ..,
+//     match spelling::spell(4, 53) {
+//         Ok(row) => ..,                          // digits 1 2 2 2: value 8, care 8
+//         Err(refusal) => refusal.number(),
 //     }
 #![tactic(auto)]
 
-// A count, or the number of the refusal.
-#[derive(Drop)]
-pub enum Counted {
-    Count(usize),
-    Refused(u8),
+ghost use Rattle.std.specs.Prelude.{◌≡◌};
+
+// A row: the value that a code has in the bits of the care.
+#[derive(Clone, Copy, PartialEq, Eq)]
+pub struct Row {
+    pub value: u8,
+    pub care: u8,
+}
+
+// Why a call refuses what it is given, in the order of the numbers.
+#[derive(Clone, Copy, PartialEq, Eq)]
+pub enum Refusal {
+    // The width is not 1 to 6.
+    Width,
+    // The table does not have 2^n cells.
+    TableLength,
+    // A cell is above 2.
+    Cell,
+    // A lent output is too short.
+    ShortOutput,
+    // Two arrays differ in length.
+    UnequalLengths,
+    // There are more than 255 rows.
+    TooManyRows,
+    // A row is not formed.
+    UnformedRow,
+    // The cube number is 3^n or more.
+    CubeNumber,
+    // The text is not in form.
+    Text,
+    // The file does not have the length that it should have.
+    FileLength,
+}
+
+impl Refusal {
+    ghost use Rattle.cube.specs.Calls.{refusal_number};
+
+    // The number of the refusal, from 1 on.
+    pub fn number(self) -> u8
+        ensures { result ≡ refusal_number self }
+    {
+        self as u8 + 1
+    }
 }

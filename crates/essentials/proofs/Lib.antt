@@ -1,3 +1,4 @@
--- Why a prime with a sole entry is essential, and that McCluskey's single asterisk rows are reported.
+-- The words of the primes, why a prime with a sole entry is essential, and that McCluskey's single asterisk rows are reported.
+pub mod Words
 pub mod SoleEntries
 pub mod Theorems

@@ -11,18 +11,18 @@ use lib.Dec.{T, eqb, leb, ltb, eqb→eq, ltb→lt, lt→ltb}
 use lib.ListN.{length, get_or, set}
 use lib.Seq.{get_or-set_same, get_or-set_other}
 use borrow.Author.Tests.{le-leb, eq-eqb, ne_eqb}
-use Rattle.numbers.specs.Below.{flag}
+use Rattle.numbers.specs.Below.{flag, tabulate}
 use Rattle.cube.specs.Words.{on_set, cube_matches, prime, essential, primes_of, column}
 use Rattle.cube.specs.McCluskey as mccluskey
 use Rattle.numbers.proofs.Bools.{and_l, and_r, and_i, is_true, is_false, holds}
-use Rattle.numbers.proofs.Below.{count_none, count_suc, count-those, those_same}
+use Rattle.numbers.proofs.Below.{count_none, count_suc, count-those, those_same, tabulate_at}
 use Rattle.cube.proofs.McCluskey.{agreement}
 use Rattle.matrix.specs.Sets.{has, In, Meeting}
 use Rattle.matrix.proofs.Bits.{has_zero}
 use Rattle.chart_arrays.specs.Columns.{columns_of}
 use Rattle.chart_arrays.proofs.Columns.{bit-has}
 use Rattle.chart_arrays.proofs.Theorems.{word_tells}
-use Rattle.essentials.specs.Steps.{PrimeWords, entries, Seen, SoleColumns, HolderMark, HolderMarks}
+use Rattle.essentials.specs.Steps.{prime_word, entries, Seen, SoleColumns, HolderMarks}
 
 -- ---- once and twice
 
@@ -46,10 +46,10 @@ just_one (suc (suc k)) =
     ap₂ (λ (x y : Bool). x && not y) (le-leb 1 (suc (suc k)) (omega arith)) (le-leb 2 (suc (suc k)) (omega arith))
     ∙ sym (ne_eqb (suc (suc k)) 1 (λ e. omega arith))
 
-pub seen_none : (words : List ℕ) → Seen words 0 0 0
-seen_none words = record {
-  one = λ c. has_zero c ∙ sym (ap (leb 1) (count_none (λ q. has (get_or words q 0) c)));
-  two = λ c. has_zero c ∙ sym (ap (leb 2) (count_none (λ q. has (get_or words q 0) c)));
+pub seen_none : (words : List ℕ) (once twice : ℕ) → ((c : ℕ) → has once c ≡ false) → ((c : ℕ) → has twice c ≡ false) → Seen words 0 once twice
+seen_none words once twice f g = record {
+  one = λ c. f c ∙ sym (ap (leb 1) (count_none (λ q. has (get_or words q 0) c)));
+  two = λ c. g c ∙ sym (ap (leb 2) (count_none (λ q. has (get_or words q 0) c)));
 }
 
 module _ (words : List ℕ) (m word once twice once' twice' : ℕ) (is : get_or words m 0 ≡ word) (s : Seen words m once twice) where
@@ -73,21 +73,22 @@ sole_of words m once twice sole s f c = f c ∙ ap₂ (λ (x y : Bool). x && not
 
 -- ---- the mark of one word more
 
-pub holders_more : (words : List ℕ) (sole : ℕ) (marks : List ℕ) (q x : ℕ) (b : Bool) → q < length marks → HolderMarks words sole marks q → Meeting (get_or words q 0) sole b
-    → x ≡ flag b → HolderMarks words sole (set marks q x) (q + 1)
-holders_more words sole marks q x b l h m e k n = go (ℕ_discrete k q)
+pub holders_more : (words : List ℕ) (sole : ℕ) (marks : List Bool) (q : ℕ) (b : Bool) → q < length marks → HolderMarks words sole marks q → Meeting (get_or words q 0) sole b
+    → HolderMarks words sole (set marks q b) (q + 1)
+holders_more words sole marks q b l h m k n = go (ℕ_discrete k q)
   where
-    go : Dec (k ≡ q) → HolderMark (get_or words k 0) sole (get_or (set marks q x) k 0)
+    go : Dec (k ≡ q) → Meeting (get_or words k 0) sole (get_or (set marks q b) k false)
     go (yes d) =
-        subst⁻¹ (λ (i : ℕ). HolderMark (get_or words i 0) sole (get_or (set marks q x) i 0)) d (record { held = b; tells = m; is = get_or-set_same marks q x 0 l ∙ e })
-    go (no d) = subst⁻¹ (HolderMark (get_or words k 0) sole) (get_or-set_other marks q k x 0 d) (h k (omega arith))
+        subst⁻¹ (λ (i : ℕ). Meeting (get_or words i 0) sole (get_or (set marks q b) i false)) d
+        (subst⁻¹ (Meeting (get_or words q 0) sole) (get_or-set_same marks q b false l) m)
+    go (no d) = subst⁻¹ (Meeting (get_or words k 0) sole) (get_or-set_other marks q k b false d) (h k (omega arith))
 
 -- ---- a prime with a sole entry is essential
 
-module _ (n : ℕ) (t words : List ℕ) (sole : ℕ) (p : PrimeWords n t words (3 ^ n)) (s : SoleColumns words (3 ^ n) sole) where
+module _ (n : ℕ) (t words : List ℕ) (sole : ℕ) (p : words ≡ tabulate (3 ^ n) 0 (prime_word n t)) (s : SoleColumns words (3 ^ n) sole) where
   -- the entries of the words are the entries of the table, in a wanted code
   has-prime : (q c : ℕ) → q < 3 ^ n → has (get_or words q 0) c ≡ (prime n t q && (ltb c (2 ^ n) && column n t q c))
-  has-prime q c l = ap (λ (x : ℕ). has x c) (p q l) ∙ go (prime n t q)
+  has-prime q c l = ap (λ (ws : List ℕ). has (get_or ws q 0) c) p ∙ ap (λ (x : ℕ). has x c) (tabulate_at (prime_word n t) (3 ^ n) q l) ∙ go (prime n t q)
     where
       go : (b : Bool) → has (cond b (columns_of n t q) 0) c ≡ (b && (ltb c (2 ^ n) && column n t q c))
       go true = bit-has (columns_of n t q) c (ltb c (2 ^ n) && column n t q c) ((word_tells n t q).tells c)

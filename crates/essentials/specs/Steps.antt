@@ -1,14 +1,14 @@
 -- What the steps of Essentials hold: the word of each prime, the columns that one word alone has, and the primes that have such a column.
 -- Assumes nothing.
-use Rattle.std.specs.Prelude.{◌≡◌, ℕ, ◌<◌, Bool, cond, List, eqb, leb, length, get_or}
-use Rattle.numbers.specs.Below.{flag, those}
+use Rattle.std.specs.Prelude.{◌≡◌, ℕ, ◌<◌, false, cond, Bool, List, eqb, leb, length, get_or}
+use Rattle.numbers.specs.Below.{those}
 use Rattle.cube.specs.Words.{prime}
 use Rattle.matrix.specs.Sets.{has, Meeting}
 use Rattle.chart_arrays.specs.Columns.{columns_of}
 
--- the words of the cubes below m: the columns of a prime, none for another cube
-abbrev pub PrimeWords : ℕ → List ℕ → List ℕ → ℕ → Type 0
-PrimeWords n t words m = (q : ℕ) → q < m → get_or words q 0 ≡ cond (prime n t q) (columns_of n t q) 0
+-- the word of cube q: the columns of a prime, none for another cube
+abbrev pub prime_word : ℕ → List ℕ → ℕ → ℕ
+prime_word n t q = cond (prime n t q) (columns_of n t q) 0
 
 -- how many of the first m words have column c: the entries of the column
 abbrev pub entries : List ℕ → ℕ → ℕ → ℕ
@@ -23,12 +23,6 @@ pub record Seen (words : List ℕ) (m once twice : ℕ) : Type 0 where
 abbrev pub SoleColumns : List ℕ → ℕ → ℕ → Type 0
 SoleColumns words m sole = (c : ℕ) → has sole c ≡ eqb (entries words m c) 1
 
--- the mark of a word is 1 if the word has one of the columns `sole`, else 0
-pub record HolderMark (word sole mark : ℕ) : Type 0 where
-  pub held : Bool
-  pub tells : Meeting word sole held
-  pub is : mark ≡ flag held
-
--- the marks of the first m words
-abbrev pub HolderMarks : List ℕ → ℕ → List ℕ → ℕ → Type 0
-HolderMarks words sole marks m = (q : ℕ) → q < m → HolderMark (get_or words q 0) sole (get_or marks q 0)
+-- the marks of the first m words: a word is marked if it has one of the columns `sole`
+abbrev pub HolderMarks : List ℕ → ℕ → List Bool → ℕ → Type 0
+HolderMarks words sole marks m = (q : ℕ) → q < m → Meeting (get_or words q 0) sole (get_or marks q false)

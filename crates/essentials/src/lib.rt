@@ -2,106 +2,96 @@
 // these entries are listed.
 //
 //     let mut places = [0u16; 9];
-//     essentials::essentials(2, &[1, 0, 0, 2], &mut places)   // count 1: cube 0 (00); 11 matches no wanted code
-#![tactic(auto)]
+//     essentials::essentials(2, &[1, 0, 0, 2], &mut places)   // Ok(1): cube 0 (00); 11 matches no wanted code
+#![tactic(auto, using(cube::proofs::Calls::refusals, cube::proofs::Calls::cubes_most))]
 
 ghost use Rattle.std.specs.Prelude.{◌≡◌, cond, ◌<◌, ◌≤◌, ◌^◌, length};
+ghost use Rattle.numbers.specs.Below.{tabulate};
 ghost use Rattle.numbers.specs.Lent.{Puts};
 ghost use Rattle.cube.specs.Words.{serving_prime, essential, essentials_of};
-ghost use Rattle.cube.specs.Calls.{widest, Listed};
+ghost use Rattle.cube.specs.Calls.{Listed};
 ghost use Rattle.tables.specs.Listing.{primes_refuses};
-ghost use Rattle.primes.specs.Steps.{Markable, Marks, is_marked};
+ghost use Rattle.primes.specs.Steps.{Marks};
 ghost use Rattle.chart_arrays.specs.Columns.{columns_of};
-ghost use Rattle.essentials.specs.Steps.{PrimeWords, SoleColumns, HolderMarks};
+ghost use Rattle.essentials.specs.Steps.{prime_word, SoleColumns, HolderMarks};
 
-use cube::Counted;
+use arrayvec::ArrayVec;
+use cube::Refusal;
 use matrix::columns;
 use spelling::MOST_CUBES;
+use tables::Table;
 
 // The word of cube q: its columns if it is marked, else none.
-fn prime_word(n: usize, table: &[u8], marks: &[u8], q: usize) -> columns::Set
-    requires { Markable n table.now marks.now × (q < 3 ^ n) }
-    ensures { result ≡ cond (is_marked marks.now q) (columns_of n table.now q) 0 }
+fn prime_word(table: Table, marked: bool, q: usize) -> columns::Set
+    requires { q < 3 ^ table.width }
+    ensures { result ≡ cond marked (columns_of table.entry.width table.entry.cells.now q) 0 }
 {
-    if marks[q] == 0 {
-        return columns::NONE;
+    if marked {
+        chart_arrays::cube_columns(table, q)
+    } else {
+        columns::NONE
     }
-    chart_arrays::cube_columns(n, table, q)
 }
 
 // The words of all cubes: the columns of a prime, none for another cube. A prime that does not serve has no column.
-fn prime_words(n: usize, table: &[u8], marks: &[u8], words: &mut [u64])
-    requires { Markable n table.now marks.now × Marks (serving_prime n table.now) marks.now (3 ^ n) × (3 ^ n ≤ length words.old) }
-    ensures { PrimeWords n table.now words.new (3 ^ n) }
+fn prime_words(table: Table, marks: &[bool]) -> ArrayVec<columns::Set, MOST_CUBES>
+    requires long { length marks.now ≡ 3 ^ table.width }
+    requires marked { Marks (serving_prime table.width table.cells.now) marks.now (3 ^ table.width) }
+    ensures { result.items ≡ tabulate (3 ^ table.entry.width) 0 (prime_word table.entry.width table.entry.cells.now) }
 {
-    let cubes = spelling::cubes(n);
-    let mut q = 0;
-    while q < cubes {
-        words[q] = prime_word(n, table, marks, q);
-        q += 1;
+    let mut words = ArrayVec::new();
+    for (q, marked) in marks.iter().enumerate() {
+        words.push(prime_word(table, *marked, q));
     }
+    words
 }
 
-// The columns that one of the first m words alone has.
-fn sole_columns(words: &[u64], m: usize) -> columns::Set
-    requires { m ≤ length words.now }
-    ensures { SoleColumns words.now m result }
+// The columns that one word alone has.
+fn sole_columns(words: &[columns::Set]) -> columns::Set
+    ensures { SoleColumns words.now (length words.now) result }
 {
-    let mut seen = columns::Coverage {
-        once: columns::NONE,
-        twice: columns::NONE,
-    };
-    let mut q = 0;
-    while q < m {
-        seen = columns::with_word(seen, words[q]);
-        q += 1;
+    let mut seen = columns::Coverage::new();
+    for word in words {
+        seen.add(*word);
     }
-    columns::without(seen.once, seen.twice)
+    seen.once - seen.twice
 }
 
 // Marks the words that have one of the columns.
-fn mark_holders(words: &[u64], m: usize, sole: columns::Set, marks: &mut [u8])
-    requires { (m ≤ length words.now) × (m ≤ length marks.old) }
-    ensures { HolderMarks words.now sole marks.new m }
+fn mark_holders(words: &[columns::Set], sole: columns::Set, marks: &mut [bool])
+    requires { length words.now ≤ length marks.old }
+    ensures { HolderMarks words.now sole marks.new (length words.now) }
 {
-    let mut q = 0;
-    while q < m {
-        marks[q] = columns::meets(words[q], sole) as u8;
-        q += 1;
+    for (q, word) in words.iter().enumerate() {
+        marks[q] = word.meets(sole);
     }
 }
 
-// Marks the essential primes of a table of n variables: 1 for an essential one, 0 for another cube.
-fn mark_essentials(n: usize, table: &[u8], marks: &mut [u8])
-    requires { Markable n table.now marks.old }
-    ensures { Marks (essential n table.now) marks.new (3 ^ n) }
+// Marks the essential primes of a table, and no other cube.
+fn mark_essentials(table: Table, marks: &mut [bool])
+    requires { 3 ^ table.width ≤ length marks.old }
+    ensures { Marks (essential table.entry.width table.entry.cells.now) marks.new (3 ^ table.entry.width) }
 {
-    primes::mark_serving_primes(n, table, marks);
-    let mut words = [0u64; MOST_CUBES];
-    prime_words(n, table, marks, &mut words);
-    let cubes = spelling::cubes(n);
-    let sole = sole_columns(&words, cubes);
-    mark_holders(&words, cubes, sole, marks);
+    primes::mark_serving_primes(table, marks);
+    let words = prime_words(table, &marks[..table.cubes()]);
+    let sole = sole_columns(words.as_slice());
+    mark_holders(words.as_slice(), sole, marks);
 }
 
-// Lists the essential primes of a table of n variables, ascending, and returns their number.
-fn list_essentials(n: usize, table: &[u8], out: &mut [u16]) -> usize
-    requires { (n ≤ widest) × (length table.now ≡ 2 ^ n) × (3 ^ n ≤ length out.old) }
-    ensures { Puts (essentials_of n table.now) out.old 0 out.new result }
+// Lists the essential primes of a table, ascending, and returns their number.
+fn list_essentials(table: Table, out: &mut [u16]) -> usize
+    requires { 3 ^ table.width ≤ length out.old }
+    ensures { Puts (essentials_of table.entry.width table.entry.cells.now) out.old 0 out.new result }
 {
-    let mut marks = [0u8; MOST_CUBES];
-    mark_essentials(n, table, &mut marks);
-    primes::list_marked(n, &marks, out)
+    let mut marks = [false; MOST_CUBES];
+    mark_essentials(table, &mut marks);
+    primes::list_marked(table.width, &marks, out)
 }
 
-// The essential primes of a table into the first places, ascending by cube number: how many there are, or the number of the refusal.
-pub fn essentials(n: usize, table: &[u8], out: &mut [u16]) -> Counted
-    ensures { Listed (primes_refuses n table.now (length out.old)) (essentials_of n table.now)
-        out.old out.new result }
+// Writes the essential primes of a table into the first places, ascending by cube number, and answers how many there are.
+pub fn essentials(n: usize, table: &[u8], out: &mut [u16]) -> Result<usize, Refusal>
+    ensures { Listed (primes_refuses n table.now (length out.old)) (essentials_of n table.now) out.old out.new result }
 {
-    let k = tables::listing_refusal(n, table, out.len());
-    if k != 0 {
-        return Counted::Refused(k);
-    }
-    Counted::Count(list_essentials(n, table, out))
+    let table = Table::with_places(n, table, out.len())?;
+    Ok(list_essentials(table, out))
 }

@@ -3,14 +3,19 @@
 #![tactic(auto)]
 
 mod documents;
-mod print;
 mod terms;
 
+use documents::EXAMPLES;
+use std::io;
+
 fn main(rt: HostRuntime) {
-    documents::document_01(&rt);
-    documents::document_000_sections_2_to_3(&rt);
-    documents::document_000_tables_2_to_8(&rt);
-    documents::document_000_sections_7_to_11(&rt);
-    documents::document_001(&rt);
-    documents::documents_002_and_003(&rt);
+    let _ = print_all(&rt);
+}
+
+// Prints each example; where a write fails, the rest is left out.
+fn print_all(rt: &impl Print) -> io::Result<()> {
+    for (name, width, table) in &EXAMPLES {
+        terms::example(rt, name, *width, table)?;
+    }
+    Ok(())
 }

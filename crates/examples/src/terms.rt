@@ -1,10 +1,11 @@
 // Primes, Essentials and Plan on one table. A term is printed as the papers have it, x1 first, `-` for untested.
-ghost use Rattle.std.specs.Prelude.{◌≡◌, ◌≤◌, ◌^◌, length, take};
+ghost use Rattle.std.specs.Prelude.{◌≤◌, IfOk, length};
 ghost use Rattle.cube.specs.Calls.{widest};
 
-use cube::Counted;
-use plan::Planned;
+use arrayvec::ArrayVec;
+use cube::Refusal;
 use spelling::{MOST_CODE_PAIRS, MOST_CODES, MOST_CUBES};
+use std::{fmt, io};
 
 // The cell that a character of a table stands for.
 fn cell_of(character: u8) -> u8 {
@@ -15,106 +16,76 @@ fn cell_of(character: u8) -> u8 {
     }
 }
 
-// The cells of a table written as a run of 0, 1 and -. Returns how many there are.
-fn read_cells(text: &[u8], cells: &mut [u8]) -> usize
-    requires { length text.now ≤ length cells.old }
-    ensures { (result ≤ length cells.new) × (result ≡ length (take result cells.new)) }
-{
-    let mut c = 0;
-    while c < text.len() {
-        cells[c] = cell_of(text[c]);
-        c += 1;
-    }
-    c
+// A cube of this many digits.
+#[derive(Clone, Copy)]
+struct Term {
+    width: usize,
+    cube: usize,
+    ghost narrow: { width ≤ widest },
 }
 
-fn digit(rt: &impl Print, d: usize) {
-    match d {
-        0 => crate::print::text(rt, b"0"),
-        1 => crate::print::text(rt, b"1"),
-        _ => crate::print::text(rt, b"-"),
-    }
-}
-
-// The digits of a cube.
-fn term(rt: &impl Print, n: usize, cube: usize)
-    requires { n ≤ widest }
-{
-    crate::print::text(rt, b" ");
-    let mut k = n;
-    while 0 < k {
-        k -= 1;
-        digit(rt, spelling::digit(cube, k));
-    }
-}
-
-// The listed terms.
-fn terms(rt: &impl Print, n: usize, count: usize, places: &[u16])
-    requires { n ≤ widest }
-{
-    if places.len() < count {
-        return;
-    }
-    let mut i = 0;
-    while i < count {
-        term(rt, n, places[i] as usize);
-        i += 1;
-    }
-}
-
-fn report(rt: &impl Print, title: &[u8], n: usize, answer: Counted, places: &[u16])
-    requires { n ≤ widest }
-{
-    crate::print::text(rt, title);
-    match answer {
-        Counted::Count(count) => {
-            crate::print::number(rt, count);
-            crate::print::text(rt, b":");
-            terms(rt, n, count, places);
-            crate::print::text(rt, b"\n");
+impl fmt::Display for Term {
+    fn fmt<W: fmt::Write>(&self, f: &mut fmt::Formatter<W>) -> fmt::Result {
+        for k in (0..self.width).rev() {
+            f.write_char(match spelling::digit(self.cube, k) {
+                0 => '0',
+                1 => '1',
+                _ => '-',
+            })?;
         }
-        Counted::Refused(k) => crate::print::refused(rt, k),
+        Ok(())
     }
 }
 
-// The primes and the essentials of a table.
-fn report_terms(rt: &impl Print, n: usize, table: &[u8])
-    requires { n ≤ widest }
+// The terms that a call has listed, or its refusal.
+fn report(
+    rt: &impl Print,
+    title: &str,
+    width: usize,
+    answer: Result<usize, Refusal>,
+    places: &[u16],
+) -> io::Result<()>
+    requires { IfOk answer (λ count. (width ≤ widest) × (count ≤ length places.now)) }
 {
-    let mut places = [0u16; MOST_CUBES];
-    let primes = primes::primes(n, table, &mut places);
-    report(rt, b"  primes ", n, primes, &places);
-    let essentials = essentials::essentials(n, table, &mut places);
-    report(rt, b"  essentials ", n, essentials, &places);
+    print!(rt; "  {title} ")?;
+    match answer {
+        Ok(count) => {
+            print!(rt; "{count}:")?;
+            for cube in &places[..count] {
+                let term = Term {
+                    width,
+                    cube: usize::from(*cube),
+                };
+                print!(rt; " {term}")?;
+            }
+            println!(rt; "")
+        }
+        Err(refusal) => println!(rt; "refused {}", refusal.number()),
+    }
 }
 
 // The counts of a shortest list of a table.
-fn report_plan(rt: &impl Print, n: usize, table: &[u8]) {
+fn report_plan(rt: &impl Print, width: usize, table: &[u8]) -> io::Result<()> {
     let mut values = [0u8; MOST_CODE_PAIRS];
     let mut cares = [0u8; MOST_CODE_PAIRS];
-    let planned = plan::plan(n, table, &mut values, &mut cares);
-    crate::print::text(rt, b"  plan ");
-    match planned {
-        Planned::Rows(rows, bits) => {
-            crate::print::text(rt, b"rows ");
-            crate::print::number(rt, rows);
-            crate::print::text(rt, b" bits ");
-            crate::print::number(rt, bits);
-            crate::print::text(rt, b"\n");
-        }
-        Planned::Refused(k) => crate::print::refused(rt, k),
+    print!(rt; "  plan ")?;
+    match plan::plan(width, table, &mut values, &mut cares) {
+        Ok(totals) => println!(rt; "rows {} bits {}", totals.rows, totals.bits),
+        Err(refusal) => println!(rt; "refused {}", refusal.number()),
     }
 }
 
-// What the calls answer for a table written as a run of 0, 1 and -.
-pub fn example(rt: &impl Print, name: &[u8], n: usize, text: &[u8])
-    requires { (n ≤ widest) × (length text.now ≤ 2 ^ widest) }
-{
-    crate::print::text(rt, name);
-    crate::print::text(rt, b"\n");
-    let mut cells = [0u8; MOST_CODES];
-    let count = read_cells(text, &mut cells);
-    let table = &cells[..count];
-    report_terms(rt, n, table);
-    report_plan(rt, n, table);
+// What the calls answer for a table written as a run of 0, 1 and -. What is longer than the widest table is cut off; no example is.
+pub fn example(rt: &impl Print, name: &str, width: usize, text: &str) -> io::Result<()> {
+    println!(rt; "{name}")?;
+    let mut table = ArrayVec::<u8, MOST_CODES>::new();
+    for character in text.bytes() {
+        let _ = table.try_push(cell_of(character));
+    }
+    let mut places = [0u16; MOST_CUBES];
+    let primes = primes::primes(width, &table, &mut places);
+    report(rt, "primes", width, primes, &places)?;
+    let essentials = essentials::essentials(width, &table, &mut places);
+    report(rt, "essentials", width, essentials, &places)?;
+    report_plan(rt, width, &table)
 }

@@ -4,7 +4,7 @@ use mathlib.Core.Path.{◌≡◌, sym, ap, ap₂, ◌∙◌, subst, subst⁻¹}
 use mathlib.Core.Logic.{◌⊎◌, inl, inr, ⊎_elim, ◌↔◌}
 use mathlib.Core.Bool.{Bool, true, false, not, ◌&&◌, ◌||◌, or-false}
 use Prim.Native.Nat.{ℕ, ◌+◌, ◌-◌, ◌*◌, ◌/◌, ◌%◌, ◌^◌, ◌<◌, ◌≤◌, min}
-use native.Mathlib.Nat.{div-one, mod-one, div-eq_of_lt, add-div_right, add-mod_right, mod-eq_of_lt, mod-lt, lt_of_le_of_lt}
+use native.Mathlib.Nat.{div-eq_of_lt, add-div_right, add-mod_right, mod-eq_of_lt, mod-lt, lt_of_le_of_lt}
 use native.Mathlib.Omega.{arith}
 use native.Mathlib.Decide.{ℕ_discrete, dec_lt}
 use lib.Dec.{T, eqb, ltb, leb, eqb→eq, lt→ltb, leb→le, le→leb}
@@ -36,14 +36,6 @@ module _ (v w : ℕ) where
   -- the set holds these codes
   abbrev pub Agreeing : ColumnSet → ℕ → Type 0
   Agreeing set k = (x : ℕ) → T (has set x) ↔ Agrees k x
-
-  -- ---- no bit
-
-  pub value_alone : (set : ColumnSet) → ((x : ℕ) → has set x ≡ eqb x v) → Agreeing set 0
-  value_alone set e x = (
-    λ h. record { above = ap (λ (y : ℕ). y / 1) (eqb→eq x v (subst T (e x) h)); below = mod-one (bit_and x w) ∙ sym (mod-one v) },
-    λ a. subst⁻¹ T (e x) (eqb_of x v (sym (div-one x) ∙ a.above ∙ div-one v)),
-  )
 
   -- ---- one bit more
 

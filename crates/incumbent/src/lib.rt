@@ -1,116 +1,90 @@
-// Covers that need not be lightest: the first limits of the search. They are found by heuristics of which nothing is promised, and `checked` keeps a cover
-// only if it is one.
+// Covers that need not be lightest: the first limits of the search. They are found by heuristics, and `checked` keeps the rows that one picks only if they
+// are a cover.
 //
 // Rows {0, 1}, {1, 2} and {0, 2}, each of weight 5, for the columns 0, 1 and 2: the rows 0 and 1 are a cover of weight 10, and the row 0 alone is none.
 #![tactic(auto)]
 
-ghost use Rattle.std.specs.Prelude.{◌+◌, ◌<◌};
-ghost use Rattle.matrix.specs.Matrix.{row_count, Sizes};
-ghost use Rattle.incumbent.specs.Incumbent.{Incumbent};
+ghost use Rattle.std.specs.Prelude.{◌≡◌, false, List, ℕ, ◌<◌, ◌≤◌, ◌||◌, eqb, IfSome, IfNone};
+ghost use Rattle.matrix.specs.Matrix.{row_count};
+ghost use Rattle.matrix.specs.Sets.{In, member, Member};
+ghost use Rattle.incumbent.specs.Incumbent.{IsCover, Incumbent};
 ghost use Rattle.incumbent.specs.Steps.{Counted};
 
-use matrix::{columns, rows};
+use matrix::{Matrix, Subproblem, columns, rows};
 
 pub mod greedy;
 pub mod local;
 
-// A cover with its weight, or a limit as the weight where none is known.
-#[derive(Drop)]
+// A cover: its rows, and what they weigh.
+#[derive(Clone, Copy)]
 pub struct Cover {
     pub weight: u64,
-    pub picked: rows::Set,
+    pub rows: rows::Set,
 }
 
 // Rows, the columns that they cover, and what they weigh.
-#[derive(Drop)]
-pub struct Gathered {
-    pub kept: rows::Set,
-    pub columns: columns::Set,
-    pub weight: u64,
+#[derive(Clone, Copy)]
+struct Gathered {
+    rows: rows::Set,
+    columns: columns::Set,
+    weight: u64,
 }
 
-// The rows gathered and the row i, if it is live.
-fn with_row(
-    words: &[u64],
-    weights: &[u32],
-    live: &rows::Set,
-    gathered: Gathered,
-    i: usize,
-) -> Gathered
-    requires { Sizes words.now weights.now × (i < row_count words.now) × Counted words.now weights.now live.now i gathered }
-    ensures { Counted words.now weights.now live.now (i + 1) result }
-{
-    if !rows::has(live, i) {
-        return gathered;
+impl Gathered {
+    // No row.
+    fn none() -> Gathered
+        ensures rows { (j : ℕ) → member result.rows j ≡ false }
+        ensures counted { (words weights : List ℕ) → Counted words weights result }
+    {
+        Gathered {
+            rows: rows::Set::none(),
+            columns: columns::NONE,
+            weight: 0,
+        }
     }
-    let kept = gathered.kept;
-    let columns = columns::either(gathered.columns, matrix::covered(words, i));
-    Gathered {
-        kept: rows::with_row(kept, i),
-        columns,
-        weight: gathered.weight + matrix::weight(weights, i),
-    }
-}
 
-// The live rows of a set.
-fn gather(words: &[u64], weights: &[u32], live: &rows::Set, set: &rows::Set) -> Gathered
-    requires { Sizes words.now weights.now }
-    ensures { Counted words.now weights.now live.now (row_count words.now) result }
-{
-    let end = matrix::row_count(words);
-    let mut gathered = Gathered {
-        kept: rows::none(),
-        columns: columns::NONE,
-        weight: 0,
-    };
-    let mut i = rows::next(set, 0, end);
-    while i < end {
-        let more = with_row(words, weights, live, gathered, i);
-        gathered = more;
-        i = rows::next(set, i + 1, end);
+    // One more row of the matrix.
+    fn add(&mut self, matrix: Matrix, i: usize)
+        requires row { i < row_count matrix.words.now }
+        requires new { member self.old.rows i ≡ false }
+        requires counted { Counted matrix.words.now matrix.weights.now self.old }
+        ensures rows { (j : ℕ) → member self.new.rows j ≡ (eqb j i || member self.old.rows j) }
+        ensures counted { Counted matrix.entry.words.now matrix.entry.weights.now self.new }
+    {
+        self.rows.insert(i);
+        self.columns = self.columns | matrix.columns_of(i);
+        self.weight += matrix.weight(i);
     }
-    gathered
+
+    // The rows, if they cover the undecided columns and weigh less than the limit.
+    fn cover(&self, problem: &Subproblem, limit: u64) -> Option<Cover>
+        requires counted { Counted problem.now.matrix.words.now problem.now.matrix.weights.now self.now }
+        requires live { (i : ℕ) → Member self.now.rows i → Member problem.now.live.now i }
+        ensures some { let p = problem.now in IfSome result (λ c. Incumbent p.matrix.words.now p.matrix.weights.now p.live.now p.undecided limit c) }
+        ensures none { IfNone result (((x : ℕ) → In problem.now.undecided x → In self.now.columns x) → limit ≤ self.now.weight) }
+    {
+        if self.weight < limit && problem.undecided.is_subset(self.columns) {
+            return Some(Cover {
+                weight: self.weight,
+                rows: self.rows,
+            });
+        }
+        None
+    }
 }
 
 // The live rows of those picked, if they cover the undecided columns and weigh less than the limit.
-pub fn checked(
-    words: &[u64],
-    weights: &[u32],
-    live: &rows::Set,
-    undecided: columns::Set,
-    picked: rows::Set,
-    limit: u64,
-) -> Cover
-    requires { Sizes words.now weights.now }
-    ensures { Incumbent words.now weights.now live.now undecided limit result.weight result.picked }
+#[tactic(auto, using(numbers::proofs::Loops::turn_in))]
+pub fn checked(problem: &Subproblem, picked: &rows::Set, limit: u64) -> Option<Cover>
+    ensures none { let p = problem.now in IfNone result ((k : ℕ) → IsCover p.matrix.words.now p.matrix.weights.now p.live.now p.undecided picked.now k → limit ≤ k) }
+    ensures some { let p = problem.now in IfSome result (λ c. Incumbent p.matrix.words.now p.matrix.weights.now p.live.now p.undecided limit c) }
 {
-    let gathered = gather(words, weights, live, &picked);
-    let kept = gathered.kept;
-    if gathered.weight < limit {
-        if columns::inside(undecided, gathered.columns) {
-            return Cover {
-                weight: gathered.weight,
-                picked: kept,
-            };
+    let matrix = problem.matrix;
+    let mut gathered = Gathered::none();
+    for i in picked.iter(matrix.rows()) {
+        if problem.live.contains(i) {
+            gathered.add(matrix, i);
         }
     }
-    Cover {
-        weight: limit,
-        picked: rows::none(),
-    }
-}
-
-// A greedy cover, checked.
-pub fn first(
-    words: &[u64],
-    weights: &[u32],
-    live: &rows::Set,
-    undecided: columns::Set,
-    limit: u64,
-) -> Cover
-    requires { Sizes words.now weights.now }
-    ensures { Incumbent words.now weights.now live.now undecided limit result.weight result.picked }
-{
-    let picked = greedy::cover(words, weights, live, undecided);
-    checked(words, weights, live, undecided, picked, limit)
+    gathered.cover(problem, limit)
 }

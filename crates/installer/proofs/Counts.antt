@@ -1,15 +1,14 @@
 -- A count fits the 32 bits that C gets: a call that does not refuse has a width in range, so it lists at most the 2^n codes or the 3^n cubes, and a
--- list file has at most 255 rows. So the number of the answer is the count itself, and the answer is read off it. Assumes nothing.
-use mathlib.Core.Path.{◌≡◌, refl, ap, ◌∙◌, subst⁻¹}
+-- list file has at most 255 rows. Assumes nothing.
+use mathlib.Core.Path.{◌≡◌, subst⁻¹}
 use mathlib.Core.List.{List}
-use Prim.Native.Nat.{ℕ, zero, suc, ◌^◌, ◌<◌, ◌≤◌}
+use Prim.Native.Nat.{ℕ, ◌^◌, ◌<◌, ◌≤◌}
 use native.Mathlib.Omega.{arith}
-use lib.IntN.{ℤ}
 use lib.ListN.{length, length-map}
+use Rattle.std.specs.Prelude.{Result, Ok, Err, IfOk}
 use Rattle.cube.specs.Words.{codes_of, serving_primes_of, essentials_of}
-use Rattle.cube.specs.Calls.{answered, count_answer, Listed}
-use Rattle.cube.specs.declared.Counted.{Counted}
-use Rattle.cube.specs.declared.Counted.TheVariants.{Count, Refused}
+use Rattle.cube.specs.Calls.{Listed}
+use Rattle.cube.specs.declared.Refusal.{Refusal}
 use Rattle.cube.proofs.Calls.{width_first, codes_most, cubes_most, primes_most, essentials_most, answered_gives}
 use Rattle.cube.proofs.Codes.{codes_length}
 use Rattle.cube.proofs.Lists.{rows_length}
@@ -20,8 +19,7 @@ use Rattle.listfile.specs.File.{one_byte_count, file_of}
 use Rattle.listfile.specs.Write.{write_refuses}
 use Rattle.listfile.proofs.Theorems.{file_length_lem}
 use Rattle.listfile.proofs.Files.{write_accepted}
-use Rattle.installer.specs.Numbers.{count_number, read_count, ListedForC}
-use Rattle.installer.specs.Steps.{FewCounted}
+use Rattle.installer.specs.Steps.{IsFew}
 
 -- ---- what is listed
 
@@ -48,18 +46,10 @@ few_bytes n vs ws places e =
 
 -- ---- what is answered
 
--- the answer by the refusal's number is read back
-read_back : (k m : ℕ) → read_count (count_number (answered k m)) ≡ answered k m
-read_back zero m = refl
-read_back (suc k) m = refl
+pub few_counted : {A : Type 0} {refusal : ℕ} {list old new : List A} (r : Result ℕ Refusal) → Listed refusal list old new r → (refusal ≡ 0 → length list < 2 ^ 31) → IfOk r IsFew
+few_counted (Err e) p few = tt
+few_counted {refusal = refusal} {list} (Ok k) p few =
+    let given = answered_gives refusal k (length list) p.answer in subst⁻¹ (λ (i : ℕ). i < 2 ^ 31) given.1 (few given.0)
 
-module _ {A : Type 0} {refusal : ℕ} {list old new : List A} where
-  pub few_counted : (a : Counted) → Listed refusal list old new a → (refusal ≡ 0 → length list < 2 ^ 31) → FewCounted a
-  few_counted (Refused k) p few = tt
-  few_counted (Count k) p few =
-      let given = answered_gives refusal k (length list) p.answer in subst⁻¹ (λ (i : ℕ). i < 2 ^ 31) given.1 (few given.0)
-
-  pub listed_for_c : (a : Counted) (r : ℤ) → Listed refusal list old new a → r ≡ count_number (count_answer a) → ListedForC refusal list old new r
-  listed_for_c a r p e =
-      let number = e ∙ ap count_number p.answer in
-      record { number = number; places = p.places; read = ap read_count number ∙ read_back refusal (length list) }
+-- so every count that is answered fits
+pub ruleset counts = (few_counted, few_codes, few_primes, few_chart, few_essentials, few_bytes)

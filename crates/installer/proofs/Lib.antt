@@ -1,7 +1,5 @@
--- Numbers that C gets as 32 bits, and what is read off them: counts, totals, a kind with totals, codes, a width with a row count.
-pub mod Signed
+-- Numbers that C gets as 32 bits, and what is read off them: counts, totals, a kind with totals, codes.
+pub mod Reading
 pub mod Counts
 pub mod Totals
-pub mod BothLists
 pub mod Codes
-pub mod Widths

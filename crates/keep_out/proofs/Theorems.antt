@@ -1,12 +1,13 @@
 -- The keep-out call is Plan for the exchanged table, and so the arrays hold a shortest keep-out list. Assumes nothing.
-use mathlib.Core.Path.{◌≡◌, sym, ap, ◌∙◌}
+use mathlib.Core.Path.{◌≡◌, sym, ap, ◌∙◌, subst}
 use mathlib.Core.List.{List}
 use Prim.Native.Nat.{ℕ, ◌^◌}
 use lib.ListN.{length}
-use Rattle.cube.specs.Calls.{answered, written}
+use Rattle.std.specs.Prelude.{Result, Ok, Err}
+use Rattle.cube.specs.Calls.{answered, written, refusal_number}
+use Rattle.cube.specs.declared.Refusal.{Refusal}
 use Rattle.plan.specs.Plan.{plan_refuses, totals_of, values_of, cares_of, Plans}
-use Rattle.plan.specs.declared.Planned.{Planned}
-use Rattle.plan.specs.declared.Planned.TheVariants.{Rows, Refused}
+use Rattle.plan.specs.declared.Totals.{Totals}
 use Rattle.plan.proofs.Refusals.{plannable}
 use Rattle.plan.proofs.Answers.{not_refused}
 use Rattle.plan.proofs.Endings.{plan_refused}
@@ -27,7 +28,7 @@ module _ (n : ℕ) (t values cares : List ℕ) where
   cells e = (plannable n t (length values) (length cares) e).table.cells
 
   module _ (values' cares' : List ℕ) where
-    to_plan : (r : Planned) → PlansKeepOut n t values cares values' cares' r → Plans n (exchanged t) values cares values' cares' r
+    to_plan : (r : Result Totals Refusal) → PlansKeepOut n t values cares values' cares' r → Plans n (exchanged t) values cares values' cares' r
     to_plan r p = record {
       list = p.list;
       minimum = λ z. let e = sym same ∙ z in ((exchange n t).lists (cells e) p.list).0 (p.is_written e).minimum;
@@ -37,7 +38,7 @@ module _ (n : ℕ) (t values cares : List ℕ) where
       cares_are = p.cares_are ∙ ap (λ (k : ℕ). written k (cares_of p.list) cares) (sym same);
     }
 
-    from_plan : (r : Planned) → Plans n (exchanged t) values cares values' cares' r → PlansKeepOut n t values cares values' cares' r
+    from_plan : (r : Result Totals Refusal) → Plans n (exchanged t) values cares values' cares' r → PlansKeepOut n t values cares values' cares' r
     from_plan r p = record {
       list = p.list;
       is_written = λ e. record { minimum = ((exchange n t).lists (cells e) p.list).1 (p.minimum (same ∙ e)); is_ascending = p.is_ascending (same ∙ e) };
@@ -46,22 +47,27 @@ module _ (n : ℕ) (t values cares : List ℕ) where
       cares_are = p.cares_are ∙ ap (λ (k : ℕ). written k (cares_of p.list) cares) same;
     }
 
-    pub plans_exchanged : (r : Planned) → PlansExchanged n t values cares values' cares' r
+    pub plans_exchanged : (r : Result Totals Refusal) → PlansExchanged n t values cares values' cares' r
     plans_exchanged r = (to_plan r, from_plan r)
 
-    held : (rows bits : ℕ) → PlansKeepOut n t values cares values' cares' (Rows rows bits) → HeldKeepOut n t values cares values' cares' rows bits
-    held rows bits p =
-        let q = to_plan (Rows rows bits) p in
-        let held = (arrays_hold n (exchanged t) values cares values' cares').counted rows bits q in
-        let long = cells (sym same ∙ not_refused n (exchanged t) values cares values' cares' rows bits q) in
+    held : (totals : Totals) → PlansKeepOut n t values cares values' cares' (Ok totals) → HeldKeepOut n t values cares values' cares' totals
+    held totals p =
+        let q = to_plan (Ok totals) p in
+        let held = (arrays_hold n (exchanged t) values cares values' cares').counted totals q in
+        let long = cells (sym same ∙ not_refused n (exchanged t) values cares values' cares' totals q) in
         record { held = held; minimum = ((exchange n t).lists long _).1 held.minimum }
 
     pub arrays_keep_out : ArraysKeepOut n t values cares values' cares'
     arrays_keep_out = record {
       counted = held;
-      accepted = λ r e p. let d = (arrays_hold n (exchanged t) values cares values' cares').accepted r (same ∙ e) (to_plan r p) in (d.rows, d.bits, d.answer);
+      accepted = λ r e p. let d = (arrays_hold n (exchanged t) values cares values' cares').accepted r (same ∙ e) (to_plan r p) in (d.totals, d.answer);
     }
 
   -- how the call ends where it refuses
-  pub keep_out_refused : (k : ℕ) → k ≡ refusal t → (k ≡ 0 → ⊥) → PlansKeepOut n t values cares values cares (Refused k)
-  keep_out_refused k e h = (plans_exchanged values cares (Refused k)).1 (plan_refused n (exchanged t) values cares k (e ∙ sym same) h)
+  pub keep_out_refused : (e : Refusal) → refusal_number e ≡ refusal t → PlansKeepOut n t values cares values cares (Err e)
+  keep_out_refused e h = (plans_exchanged values cares (Err e)).1 (plan_refused n (exchanged t) values cares e (h ∙ sym same))
+
+  -- and where Plan has written
+  pub keep_out_done : {cells values' cares' : List ℕ} (r : Result Totals Refusal) → cells ≡ exchanged t → Plans n cells values cares values' cares' r
+      → PlansKeepOut n t values cares values' cares' r
+  keep_out_done {values' = values'} {cares'} r e p = (plans_exchanged values' cares' r).1 (subst (λ (u : List ℕ). Plans n u values cares values' cares' r) e p)

@@ -1,12 +1,13 @@
 -- The keep-out call, document 02: "Some chips pass everything except what a row matches. A call writes the shortest list that matches every barred code and
 -- no wanted one, in Plan's order and with Plan's two counts. [..] Demand 3 holds for a keep-out list too, with wanted and barred exchanged. Both calls refuse
 -- as Plan does." Assumes nothing.
-use Rattle.std.specs.Prelude.{◌≡◌, List, map, ℕ, ◌^◌, ◌<◌, T, length}
+use Rattle.std.specs.Prelude.{◌≡◌, List, map, ℕ, ◌^◌, ◌<◌, Result, T, length}
 use Rattle.cube.specs.Words.{on_set, off_set, Cover, all_formed, cover_matches, cover_literals, number_of}
-use Rattle.cube.specs.Calls.{answered, written}
+use Rattle.cube.specs.Calls.{answered, answer_of, written}
 use Rattle.cube.specs.Minimum.{NoBetter}
-use Rattle.plan.specs.Plan.{plan_refuses, totals_of, plan_answer, ascending, values_of, cares_of}
-use Rattle.plan.specs.declared.Planned.{Planned}
+use Rattle.cube.specs.declared.Refusal.{Refusal}
+use Rattle.plan.specs.Plan.{plan_refuses, totals_of, ascending, values_of, cares_of}
+use Rattle.plan.specs.declared.Totals.{Totals}
 
 -- a list of rows of the table's width "that matches every barred code and no wanted one"
 pub record KeepsOut (n : ℕ) (t : List ℕ) (list : Cover) : Type 0 where
@@ -25,12 +26,12 @@ pub record MayKeepOut (n : ℕ) (t : List ℕ) (list : Cover) : Type 0 where
   pub is_ascending : T (ascending (map (number_of n) list))
 
 -- Demand 3 for a keep-out list, for a call with these arrays before and after, and this answer.
-pub record PlansKeepOut (n : ℕ) (t values cares values' cares' : List ℕ) (r : Planned) : Type 0 where
+pub record PlansKeepOut (n : ℕ) (t values cares values' cares' : List ℕ) (r : Result Totals Refusal) : Type 0 where
   -- left open: which of several equally good lists is written
   pub list : Cover
   pub is_written : plan_refuses n t (length values) (length cares) ≡ 0 → MayKeepOut n t list
   -- "with Plan's two counts"; on refusal the number alone
-  pub answer : plan_answer r ≡ answered (plan_refuses n t (length values) (length cares)) (totals_of n list)
+  pub answer : answer_of r ≡ answered (plan_refuses n t (length values) (length cares)) (totals_of n list)
   -- from the first place of each array on; what follows, and on refusal all, is unchanged
   pub values_are : values' ≡ written (plan_refuses n t (length values) (length cares)) (values_of list) values
   pub cares_are : cares' ≡ written (plan_refuses n t (length values) (length cares)) (cares_of list) cares

@@ -1,13 +1,13 @@
 -- "with wanted and barred exchanged": a shortest keep-out list of a table is a shortest list of the table in which wanted and barred codes have changed
 -- places, and the keep-out call is Plan for that table. `Exchanging` and `Theorems` of `proofs/` prove it. Assumes nothing.
-use Rattle.std.specs.Prelude.{◌≡◌, ◌↔◌, List, map, ℕ, zero, suc, ◌^◌, ◌<◌, length}
+use Rattle.std.specs.Prelude.{◌≡◌, ◌↔◌, List, map, ℕ, zero, suc, ◌^◌, ◌<◌, Result, Ok, length}
 use Rattle.cube.specs.Words.{on_set, off_set, dont_care, Cover, first_rows}
 use Rattle.cube.specs.Calls.{bad_cell}
 use Rattle.cube.specs.Minimum.{Minimum}
+use Rattle.cube.specs.declared.Refusal.{Refusal}
 use Rattle.plan.specs.Plan.{plan_refuses, Plans}
 use Rattle.plan.specs.Theorems.{Held}
-use Rattle.plan.specs.declared.Planned.{Planned}
-use Rattle.plan.specs.declared.Planned.TheVariants.{Rows}
+use Rattle.plan.specs.declared.Totals.{Totals}
 use Rattle.keep_out.specs.KeepOut.{MinimumKeepOut, PlansKeepOut}
 
 -- 0 barred and 1 wanted change places; 2 free, and what is no cell, stay what they are
@@ -33,18 +33,18 @@ pub record Exchange (n : ℕ) (t : List ℕ) : Type 0 where
   pub lists : length t ≡ 2 ^ n → (list : Cover) → MinimumKeepOut n t list ↔ Minimum n (exchanged t) list
 
 -- the keep-out call is Plan for the exchanged table, so that all that follows from Plan's promise follows from its
-abbrev pub PlansExchanged : ℕ → List ℕ → List ℕ → List ℕ → List ℕ → List ℕ → Planned → Type 0
+abbrev pub PlansExchanged : ℕ → List ℕ → List ℕ → List ℕ → List ℕ → List ℕ → Result Totals Refusal → Type 0
 PlansExchanged n t values cares values' cares' r = PlansKeepOut n t values cares values' cares' r ↔ Plans n (exchanged t) values cares values' cares' r
 
 -- as the arrays hold Plan's list (`Held`): where counts are returned, the first places hold a shortest keep-out list
-pub record HeldKeepOut (n : ℕ) (t values cares values' cares' : List ℕ) (rows bits : ℕ) : Type 0 where
-  pub held : Held n (exchanged t) values cares values' cares' rows bits
-  pub minimum : MinimumKeepOut n t (first_rows rows values' cares')
+pub record HeldKeepOut (n : ℕ) (t values cares values' cares' : List ℕ) (totals : Totals) : Type 0 where
+  pub held : Held n (exchanged t) values cares values' cares' totals
+  pub minimum : MinimumKeepOut n t (first_rows totals.rows values' cares')
 
 -- what follows for a call, whatever the table and the arrays
 pub record ArraysKeepOut (n : ℕ) (t values cares values' cares' : List ℕ) : Type 0 where
   -- where counts are returned, they are those of the list that the arrays hold
-  pub counted : (rows bits : ℕ) → PlansKeepOut n t values cares values' cares' (Rows rows bits) → HeldKeepOut n t values cares values' cares' rows bits
+  pub counted : (totals : Totals) → PlansKeepOut n t values cares values' cares' (Ok totals) → HeldKeepOut n t values cares values' cares' totals
   -- "For every accepted table": there are counts
-  pub accepted : (r : Planned) → plan_refuses n t (length values) (length cares) ≡ 0 → PlansKeepOut n t values cares values' cares' r
-      → (rows : ℕ) × (bits : ℕ) × (r ≡ Rows rows bits)
+  pub accepted : (r : Result Totals Refusal) → plan_refuses n t (length values) (length cares) ≡ 0 → PlansKeepOut n t values cares values' cares' r
+      → (totals : Totals) × (r ≡ Ok totals)

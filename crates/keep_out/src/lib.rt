@@ -3,15 +3,17 @@
 //
 //     let mut values = [0u8; 2];
 //     let mut cares = [0u8; 2];
-//     keep_out::keep_out(2, &[0, 1, 1, 1], &mut values, &mut cares)   // 1 row, 2 bits: 00, value 0, care 3
-#![tactic(auto)]
+//     keep_out::keep_out(2, &[0, 1, 1, 1], &mut values, &mut cares)   // Ok: 1 row, 2 bits: 00, value 0, care 3
+#![tactic(auto, using(cube::proofs::Calls::refusals))]
 
-ghost use Rattle.std.specs.Prelude.{◌≡◌, ◌≤◌, length};
-ghost use Rattle.numbers.specs.Lent.{Puts};
+ghost use Rattle.std.specs.Prelude.{◌≡◌, ◌≤◌, ◌^◌, length};
+ghost use Rattle.cube.specs.Calls.{widest};
 ghost use Rattle.keep_out.specs.KeepOut.{PlansKeepOut};
 ghost use Rattle.keep_out.specs.Theorems.{exchanged_cell, exchanged};
 
-use plan::Planned;
+use arrayvec::ArrayVec;
+use cube::Refusal;
+use plan::Totals;
 use spelling::MOST_CODES;
 
 // A cell with wanted and barred exchanged.
@@ -25,29 +27,28 @@ fn exchanged_cell(cell: u8) -> u8
     }
 }
 
-// Fills in the table with wanted and barred codes exchanged, from the first place on, and returns the number of its cells.
-fn exchange(table: &[u8], cells: &mut [u8]) -> usize
-    requires { length table.now ≤ length cells.old }
-    ensures { Puts (exchanged table.now) cells.old 0 cells.new result }
+// The cells of a table with wanted and barred codes exchanged.
+fn exchange(table: &[u8]) -> ArrayVec<u8, MOST_CODES>
+    requires { length table.now ≤ 2 ^ widest }
+    ensures { result.items ≡ exchanged table.now }
 {
-    let mut i = 0;
-    while i < table.len() {
-        cells[i] = exchanged_cell(table[i]);
-        i += 1;
+    let mut cells = ArrayVec::new();
+    for cell in table {
+        cells.push(exchanged_cell(*cell));
     }
-    i
+    cells
 }
 
-// Writes a shortest keep-out list for a table into the first places of both arrays, ascending by cube number. Answers its counts, or the number of the
-// refusal.
-pub fn keep_out(n: usize, table: &[u8], values: &mut [u8], cares: &mut [u8]) -> Planned
+// Writes a shortest keep-out list for a table into the first places of both arrays, ascending by cube number, and answers its totals.
+pub fn keep_out(
+    n: usize,
+    table: &[u8],
+    values: &mut [u8],
+    cares: &mut [u8],
+) -> Result<Totals, Refusal>
     ensures { PlansKeepOut n table.now values.old cares.old values.new cares.new result }
 {
-    let k = plan::plan_refusal(n, table, values.len(), cares.len());
-    if k != 0 {
-        return Planned::Refused(k);
-    }
-    let mut cells = [0u8; MOST_CODES];
-    let count = exchange(table, &mut cells);
-    plan::plan(n, &cells[..count], values, cares)
+    let accepted = plan::accept(n, table, values.len(), cares.len())?;
+    let cells = exchange(accepted.cells);
+    plan::plan(n, cells.as_slice(), values, cares)
 }

@@ -1,24 +1,23 @@
 -- The parts of a file: those of the file of a list are the list's arrays, and a whole file is made of its parts. What a file that is not refused has, what
 -- Write and Read refuse, and what an answer of Read says. Assumes nothing.
 use mathlib.Core.Path.{◌≡◌, sym, ap, ap₂, ◌∙◌}
-use mathlib.Core.Bool.{Bool, true, false, not, ◌||◌}
+use mathlib.Core.Bool.{Bool, false, not, ◌||◌}
 use mathlib.Core.List.{List, [], ◌∷◌, ◌++◌}
-use Prim.Native.Nat.{ℕ, suc, ◌+◌, ◌-◌, ◌<◌, ◌≤◌}
+use Prim.Native.Nat.{ℕ, suc, ◌+◌, ◌≤◌}
 use native.Mathlib.Omega.{arith}
 use lib.Dec.{eqb, ltb}
 use lib.ListN.{length, take, drop, length-drop, take-append-drop}
 use lib.Seq.{length-take-le, take-length, take-append_seam, drop-append_seam}
-use borrow.Rule.Slice.PartMut.{mid_of}
-use borrow.Author.Tests.{lt-ltb, le-ltb, eqb-true, not-false}
+use borrow.Author.Tests.{le-ltb, eqb-true, not-false}
+use Rattle.std.specs.Prelude.{Ok}
 use Rattle.numbers.proofs.Bools.{is_true, eqb_of}
 use Rattle.cube.specs.Words.{rows_of}
 use Rattle.cube.specs.Calls.{bad_width, short, bad_row, bad_file, when, first_of, list_conditions}
-use Rattle.cube.proofs.Calls.{neither, first_passes, none_first, none_in_front, AcceptedList, accepted_list, last_before, last_holds, last_passes, last_none, first_short, second_short, neither_short, answered_gives}
+use Rattle.cube.proofs.Calls.{neither, first_passes, none_first, none_in_front, AcceptedList, accepted_list, last_passes, last_none, neither_short, answered_gives}
 use Rattle.listfile.specs.File.{Format, one_byte_count, file_length, file_of, width_in, values_in, cares_in}
 use Rattle.listfile.specs.Write.{write_refuses}
-use Rattle.listfile.specs.Read.{rows_in, wrong_length, file_conditions, read_refuses, WidthAndCount, width_and_count, Reads}
-use Rattle.listfile.specs.Steps.{Whole}
-use Rattle.listfile.specs.declared.ReadBack.TheVariants as readback
+use Rattle.listfile.specs.Read.{rows_in, wrong_length, file_conditions, read_refuses, width_and_count, Reads}
+use Rattle.listfile.specs.declared.Header.{Header}
 
 -- past the first two bytes
 behind_two : (a b k : ℕ) (rest : List ℕ) → drop (2 + k) (a ∷ b ∷ rest) ≡ drop k rest
@@ -39,6 +38,10 @@ module _ (n : ℕ) (vs ws : List ℕ) where
 
 -- ---- a whole file
 
+-- a file of the length that its row count asks for
+abbrev pub Whole : Format → List ℕ → Type 0
+Whole format file = length file ≡ file_length format (format.count file)
+
 module _ (format : Format) (file : List ℕ) (whole : Whole format file) where
   pub values_length : length (values_in format file) ≡ format.count file
   values_length = length-take-le (format.count file) (drop format.size file) (omega (arith, whole, length-drop format.size file))
@@ -47,16 +50,6 @@ module _ (format : Format) (file : List ℕ) (whole : Whole format file) where
   cares_length =
       length-take-le (format.count file) (drop (format.size + format.count file) file)
       (omega (arith, whole, length-drop (format.size + format.count file) file))
-
--- the middle parts of a file that are lent for its values and its cares
-module _ (format : Format) (file : List ℕ) (rows : ℕ) (e : rows ≡ format.count file) where
-  pub values_part : mid_of format.size (format.size + rows - format.size) file ≡ values_in format file
-  values_part = ap (λ (k : ℕ). take k (drop format.size file)) (let z : format.size + rows - format.size ≡ format.count file = omega (arith, e) in z)
-
-  pub cares_part : mid_of (format.size + rows) (format.size + rows + rows - (format.size + rows)) file ≡ cares_in format file
-  cares_part =
-      let long : format.size + rows + rows - (format.size + rows) ≡ format.count file = omega (arith, e) in
-      ap₂ (λ (k i : ℕ). take k (drop (format.size + i) file)) long e
 
 -- the file that its parts make
 pub file_of_parts : (file : List ℕ) → Whole one_byte_count file → file_of one_byte_count (width_in file) (values_in one_byte_count file) (cares_in one_byte_count file) ≡ file
@@ -79,11 +72,8 @@ pub record AcceptedFile (format : Format) (file : List ℕ) : Type 0 where
   pub width : bad_width (width_in file) ≡ false
   pub formed : bad_row (width_in file) (rows_in format file) ≡ false
 
--- a file under the header's length, and one that has it
-pub bad_short : (bytes header needed : ℕ) → bytes < header → true ≡ bad_file bytes header needed
-bad_short bytes header needed l = sym (ap (λ (b : Bool). b || not (eqb bytes needed)) (lt-ltb bytes header l))
-
-pub bad_else : (bytes header needed : ℕ) → header ≤ bytes → not (eqb bytes needed) ≡ bad_file bytes header needed
+-- a file that has the header's length
+bad_else : (bytes header needed : ℕ) → header ≤ bytes → not (eqb bytes needed) ≡ bad_file bytes header needed
 bad_else bytes header needed l = sym (ap (λ (b : Bool). b || not (eqb bytes needed)) (le-ltb bytes header l))
 
 pub right_length : (format : Format) (file : List ℕ) → wrong_length format file ≡ false → Whole format file
@@ -124,18 +114,8 @@ module _ (format : Format) (file : List ℕ) (values cares : ℕ) where
   abbrev is_short : Bool
   is_short = short values (format.count file) || short cares (format.count file)
 
-  pub refuses_file : (k : ℕ) → k ≡ first_of (file_conditions format file) → (k ≡ 0 → ⊥) → k ≡ read_refuses format file values cares
-  refuses_file = last_before (file_conditions format file) tt is_short 3
-
-  module _ (e : first_of (file_conditions format file) ≡ 0) where
-    pub refuses_values : values < format.count file → 4 ≡ read_refuses format file values cares
-    refuses_values h = last_holds (file_conditions format file) tt is_short 3 e (first_short values cares (format.count file) h)
-
-    pub refuses_cares : cares < format.count file → 4 ≡ read_refuses format file values cares
-    refuses_cares h = last_holds (file_conditions format file) tt is_short 3 e (second_short values cares (format.count file) h)
-
-    pub refuses_none : format.count file ≤ values → format.count file ≤ cares → 0 ≡ read_refuses format file values cares
-    refuses_none v w = last_passes (file_conditions format file) tt is_short 3 e (neither_short values cares (format.count file) v w)
+  pub refuses_none : first_of (file_conditions format file) ≡ 0 → format.count file ≤ values → format.count file ≤ cares → 0 ≡ read_refuses format file values cares
+  refuses_none e v w = last_passes (file_conditions format file) tt is_short 3 e (neither_short values cares (format.count file) v w)
 
   -- where nothing is refused
   pub read_accepted : read_refuses format file values cares ≡ 0 → AcceptedFile format file
@@ -149,8 +129,8 @@ pub record Given (format : Format) (file values cares : List ℕ) (n count : ℕ
   pub width_is : n ≡ width_in file
   pub count_is : count ≡ format.count file
 
-pub read_gives : {format : Format} {file values cares values' cares' : List ℕ} {n count : ℕ} → Reads format file values cares values' cares' (readback.List n count)
+pub read_gives : {format : Format} {file values cares values' cares' : List ℕ} {n count : ℕ} → Reads format file values cares values' cares' (Ok (record { width = n; count = count }))
     → Given format file values cares n count
 read_gives {format} {file} {values} {cares} {n = n} {count} p =
     let a = answered_gives (read_refuses format file (length values) (length cares)) (record { width = n; count = count }) (width_and_count format file) p.answer in
-    record { not_refused = a.0; width_is = ap (λ (x : WidthAndCount). x.width) a.1; count_is = ap (λ (x : WidthAndCount). x.count) a.1 }
+    record { not_refused = a.0; width_is = ap (λ (x : Header). x.width) a.1; count_is = ap (λ (x : Header). x.count) a.1 }

@@ -7,20 +7,19 @@ use native.Mathlib.Omega.{arith}
 use lib.Dec.{eqb}
 use lib.ListN.{length, take}
 use borrow.Author.Tests.{le-ltb}
+use Rattle.std.specs.Prelude.{Result, Ok, Err}
 use Rattle.numbers.proofs.Bools.{is_true, eqb_of}
 use Rattle.numbers.proofs.Fronts.{front_is}
 use Rattle.cube.specs.Words.{rows_of}
-use Rattle.cube.specs.Calls.{bad_width, short, unequal_lengths, most_rows, too_many_rows, bad_row, when, first_of, list_conditions, gives, answered, written}
-use Rattle.cube.specs.declared.Counted.{Counted}
-use Rattle.cube.specs.declared.Counted.TheVariants.{Count}
+use Rattle.cube.specs.Calls.{bad_width, short, unequal_lengths, most_rows, too_many_rows, bad_row, when, first_of, list_conditions, gives, answered, answer_of, refusal_number, written}
+use Rattle.cube.specs.declared.Refusal.{Refusal}
 use Rattle.cube.proofs.Calls.{first_passes, conditions_pass, AcceptedList, refuses_gives, same_value, none_refuses, listed_count, listed_front, listed_counts}
 use Rattle.cube.proofs.Lists.{rows_length}
 use Rattle.listfile.specs.File.{one_byte_count, file_length, file_of, width_in, values_in, cares_in}
 use Rattle.listfile.specs.Write.{write_refuses, Writes}
-use Rattle.listfile.specs.Read.{rows_in, read_refuses, WidthAndCount, width_and_count, read_answer, Reads}
+use Rattle.listfile.specs.Read.{rows_in, read_refuses, width_and_count, Reads}
 use Rattle.listfile.specs.Theorems.{ComesBack, WrittenComesBack, SameBytes, ReadIsWrittenAgain}
-use Rattle.listfile.specs.declared.ReadBack.{ReadBack}
-use Rattle.listfile.specs.declared.ReadBack.TheVariants as readback
+use Rattle.listfile.specs.declared.Header.{Header}
 use Rattle.listfile.proofs.Theorems.{file_length_lem}
 use Rattle.listfile.proofs.Files.{values_in_file, cares_in_file, values_length, cares_length, file_of_parts, write_accepted, AcceptedFile, file_passes, refuses_none, read_accepted, read_gives}
 
@@ -61,7 +60,7 @@ module _ (n : ℕ) (vs ws out : List ℕ) (e : write_refuses one_byte_count n vs
         (refuses_none one_byte_count file (length values) (length cares) (file_passes one_byte_count file file_accepted) (omega (arith, count_in_file, l))
         (omega (arith, count_in_file, m)))
 
-    comes_back : (r : ReadBack) → Reads one_byte_count file values cares values' cares' r → ComesBack n vs ws values' cares' r
+    comes_back : (r : Result Header Refusal) → Reads one_byte_count file values cares values' cares' r → ComesBack n vs ws values' cares' r
     comes_back r p = record {
       answer = answers r (p.answer ∙ ap (λ (k : ℕ). answered k (width_and_count one_byte_count file)) passes);
       values = front_is vs values refl (p.values_are ∙ ap₂ (λ (k : ℕ) (l : List ℕ). written k l values) passes (values_in_file n vs ws));
@@ -69,11 +68,9 @@ module _ (n : ℕ) (vs ws out : List ℕ) (e : write_refuses one_byte_count n vs
           front_is ws cares list.equal (p.cares_are ∙ ap₂ (λ (k : ℕ) (l : List ℕ). written k l cares) passes (cares_in_file n vs ws list.equal));
     }
       where
-        answers : (r : ReadBack) → read_answer r ≡ gives (width_and_count one_byte_count file) → r ≡ readback.List n (length vs)
-        answers (readback.List a b) h =
-            let z = same_value _ _ h in
-            ap₂ readback.List (ap (λ (x : WidthAndCount). x.width) z ∙ width_in_file) (ap (λ (x : WidthAndCount). x.count) z ∙ count_in_file)
-        answers (readback.Refused k) h = absurd (refuses_gives k _ h)
+        answers : (r : Result Header Refusal) → answer_of r ≡ gives (width_and_count one_byte_count file) → r ≡ Ok (record { width = n; count = length vs })
+        answers (Ok header) h = ap Ok (same_value _ _ h ∙ ap₂ (λ (a b : ℕ). record { width = a; count = b }) width_in_file count_in_file)
+        answers (Err e) h = absurd (refuses_gives (refusal_number e) _ h)
 
 pub written_comes_back : WrittenComesBack
 written_comes_back n vs ws out out' bytes w values cares values' cares' r l m p =
@@ -111,16 +108,16 @@ module _ (file : List ℕ) (few : one_byte_count.count file ≤ most_rows) (a : 
         ∙ conditions_pass (list_conditions (width_in file) vs ws) (when room 4 ∷ []) tt list_passes
         ∙ first_passes room 4 [] (le-ltb (length out) (file_length one_byte_count (length (rows_of vs ws))) (omega (arith, l, rows_count, a.whole)))
 
-    same_bytes : (r : Counted) → Writes one_byte_count (width_in file) vs ws out out' r → SameBytes file out' r
+    same_bytes : (r : Result ℕ Refusal) → Writes one_byte_count (width_in file) vs ws out out' r → SameBytes file out' r
     same_bytes r w = go (listed_counts r write_passes w)
       where
-        go : (k : ℕ) × (r ≡ Count k) → SameBytes file out' r
+        go : (k : ℕ) × (r ≡ Ok k) → SameBytes file out' r
         go (k, e) =
-            let w' : Writes one_byte_count (width_in file) vs ws out out' (Count k) = subst (λ (x : Counted). Writes one_byte_count (width_in file) vs ws out out' x) e w in
+            let w' : Writes one_byte_count (width_in file) vs ws out out' (Ok k) = subst (λ (x : Result ℕ Refusal). Writes one_byte_count (width_in file) vs ws out out' x) e w in
             let long : k ≡ length file = listed_count w' ∙ ap length (file_of_parts file a.whole) in
-            record { answer = e ∙ ap Count long; bytes = ap (λ (i : ℕ). take i out') (sym long) ∙ listed_front w' ∙ file_of_parts file a.whole }
+            record { answer = e ∙ ap Ok long; bytes = ap (λ (i : ℕ). take i out') (sym long) ∙ listed_front w' ∙ file_of_parts file a.whole }
 
-module _ (file values cares values' cares' : List ℕ) (n count : ℕ) (p : Reads one_byte_count file values cares values' cares' (readback.List n count)) where
+module _ (file values cares values' cares' : List ℕ) (n count : ℕ) (p : Reads one_byte_count file values cares values' cares' (Ok (record { width = n; count = count }))) where
   none : read_refuses one_byte_count file (length values) (length cares) ≡ 0
   none = (read_gives p).not_refused
 
@@ -137,7 +134,7 @@ module _ (file values cares values' cares' : List ℕ) (n count : ℕ) (p : Read
       front_is (cares_in one_byte_count file) cares ((read_gives p).count_is ∙ sym (cares_length one_byte_count file file_is.whole))
       (p.cares_are ∙ ap (λ (k : ℕ). written k (cares_in one_byte_count file) cares) none)
 
-  again : (out out' : List ℕ) (r : Counted) → length file ≤ length out → Writes one_byte_count n (take count values') (take count cares') out out' r → SameBytes file out' r
+  again : (out out' : List ℕ) (r : Result ℕ Refusal) → length file ≤ length out → Writes one_byte_count n (take count values') (take count cares') out out' r → SameBytes file out' r
   again out out' r l w =
       same_bytes file (p.few none) file_is out out' l r
       (subst (λ (k : ℕ). Writes one_byte_count k (values_in one_byte_count file) (cares_in one_byte_count file) out out' r) (read_gives p).width_is

@@ -1,4 +1,4 @@
--- The list file, what Write and Read refuse and give, the file by positions, the round trips, and what the steps ask for.
+-- The list file, what Write and Read refuse and give, the file by positions, the round trips, and what a step asks for.
 pub mod File
 pub mod Write
 pub mod Read

@@ -1,164 +1,105 @@
 // Write: the list file of a list of rows in two arrays. Read: the list of a list file. docs/LIST-FILE.md describes the file.
 //
 //     let mut file = [0u8; 6];
-//     listfile::write(4, &[8, 9], &[8, 13], &mut file)         // count 6: 04 02 08 09 08 0d
+//     listfile::write(4, &[8, 9], &[8, 13], &mut file)         // Ok(6): 04 02 08 09 08 0d
 //     let mut values = [0u8; 2];
 //     let mut cares = [0u8; 2];
-//     listfile::read(&file, &mut values, &mut cares)           // width 4, count 2: values 8 9, cares 8 13
-#![tactic(auto)]
+//     listfile::read(&file, &mut values, &mut cares)           // Ok: width 4, count 2; values 8 9, cares 8 13
+#![tactic(auto, using(cube::proofs::Calls::refusals))]
 
-ghost use Rattle.std.specs.Prelude.{◌≡◌, ◌≤◌, length};
+ghost use Rattle.std.specs.Prelude.{◌≡◌, ◌+◌, ◌≤◌, [], ◌∷◌, length, IfOk, OnOk};
 ghost use Rattle.std.proofs.lemmas.List.Edits.{sets};
-ghost use Rattle.cube.specs.Calls.{widest, most_rows, bad_row, first_of, written};
-ghost use Rattle.listfile.specs.File.{one_byte_count, file_length, file_of, width_in, values_in, cares_in};
+ghost use Rattle.cube.specs.Calls.{widest, most_rows, when, first_of, refusal_of, written};
+ghost use Rattle.listfile.specs.File.{one_byte_count, file_of, values_in, cares_in};
 ghost use Rattle.listfile.specs.Write.{Writes};
-ghost use Rattle.listfile.specs.Read.{rows_in, wrong_length, file_conditions, Reads};
-ghost use Rattle.listfile.specs.Steps.{Writable, Whole, Readable};
+ghost use Rattle.listfile.specs.Read.{wrong_length, width_and_count, Reads};
+ghost use Rattle.listfile.specs.Steps.{Writable};
 
-use cube::Counted;
+use cube::Refusal;
+use lists::Rows;
 
 // The bytes before the values.
-const HEADER: usize = 2;
+const HEADER_LEN: usize = 2;
 
-// Width and count of the list that was read, or the number of the refusal.
-#[derive(Drop)]
-pub enum ReadBack {
-    List { width: usize, count: usize },
-    Refused(u8),
+// What stands before the values of a list file: its width and its row count.
+#[derive(Clone, Copy, PartialEq, Eq)]
+pub struct Header {
+    pub width: usize,
+    pub count: usize,
 }
 
-// The length of the file of this many rows.
-fn file_length(rows: usize) -> usize
-    requires { rows ≤ most_rows }
-    ensures { result ≡ file_length one_byte_count rows }
+// A list file taken apart: its header and its rows.
+#[derive(Clone, Copy)]
+struct ListFile<'a> {
+    header: Header,
+    rows: Rows<'a>,
+}
+
+// Writes the file: width and row count, the values right after them, and the cares right after the values.
+fn put_file(n: usize, rows: Rows<'_>, out: &mut [u8])
+    requires { Writable n rows.values.now out.old }
+    ensures { out.new ≡ sets out.old 0 (file_of one_byte_count n rows.entry.values.now rows.entry.cares.now) }
 {
-    HEADER + 2 * rows
+    let count = rows.values.len();
+    let behind = HEADER_LEN + count;
+    out[..HEADER_LEN].copy_from_slice(&[n as u8, count as u8]);
+    out[HEADER_LEN..behind].copy_from_slice(rows.values);
+    out[behind..behind + count].copy_from_slice(rows.cares);
 }
 
-// Writes width and row count.
-fn put_header(n: u8, rows: u8, out: &mut [u8])
-    requires { one_byte_count.size ≤ length out.old }
-    ensures { out.new ≡ sets out.old 0 (one_byte_count.bytes n rows) }
-{
-    out[0] = n;
-    out[1] = rows;
-}
-
-// The width that a file gives.
-fn width_in(file: &[u8]) -> usize
-    requires { one_byte_count.size ≤ length file.now }
-    ensures { result ≡ width_in file.now }
-{
-    file[0] as usize
-}
-
-// The row count that a file gives.
-fn count_in(file: &[u8]) -> usize
-    requires { one_byte_count.size ≤ length file.now }
-    ensures { (result ≡ one_byte_count.count file.now) × (result ≤ most_rows) }
-{
-    file[1] as usize
-}
-
-// Writes the file: the values into a middle part of the buffer, the cares into the part right after them.
-fn put_file(n: usize, values: &[u8], cares: &[u8], out: &mut [u8])
-    requires { Writable n values.now cares.now out.old }
-    ensures { out.new ≡ sets out.old 0 (file_of one_byte_count n values.now cares.now) }
-{
-    let rows = values.len();
-    let behind = HEADER + rows;
-    let end = behind + rows;
-    put_header(n as u8, rows as u8, out);
-    out[HEADER..behind].copy_from_slice(values);
-    out[behind..end].copy_from_slice(cares);
-}
-
-// Writes the list file of a list into the first bytes of a buffer. Answers its length, or the number of the refusal.
-pub fn write(n: usize, values: &[u8], cares: &[u8], out: &mut [u8]) -> Counted
+// Writes the list file of a list into the first bytes of a buffer. Answers its length, or why it refuses.
+pub fn write(n: usize, values: &[u8], cares: &[u8], out: &mut [u8]) -> Result<usize, Refusal>
     ensures { Writes one_byte_count n values.now cares.now out.old out.new result }
 {
-    if spelling::bad_width(n) {
-        return Counted::Refused(1);
-    }
-    let k = lists::list_refusal(n, values, cares);
-    if k != 0 {
-        return Counted::Refused(k);
-    }
-    let length = file_length(values.len());
+    spelling::check_width(n)?;
+    let rows = Rows::formed(n, values, cares)?;
+    let length = HEADER_LEN + 2 * values.len();
     if out.len() < length {
-        return Counted::Refused(4);
+        return Err(Refusal::ShortOutput);
     }
-    put_file(n, values, cares, out);
-    Counted::Count(length)
+    put_file(n, rows, out);
+    Ok(length)
 }
 
-// Whether a file is shorter than its header, or not as long as its row count asks.
-fn wrong_length(file: &[u8]) -> bool
-    ensures { result ≡ wrong_length one_byte_count file.now }
-{
-    if file.len() < HEADER {
-        return true;
+impl<'a> ListFile<'a> {
+    // Takes a file apart: refused if it is shorter than its header, or not as long as its row count asks. The values are the part right
+    // behind the header, and the cares the part right behind the values.
+    fn new(file: &'a [u8]) -> Result<ListFile<'a>, Refusal>
+        ensures refusal { refusal_of result ≡ first_of (when (wrong_length one_byte_count file.now) 10 ∷ []) }
+        ensures header { IfOk result (λ f. f.header ≡ width_and_count one_byte_count file.now) }
+        ensures values { IfOk result (λ f. f.rows.values.now ≡ values_in one_byte_count file.now) }
+        ensures cares { IfOk result (λ f. f.rows.cares.now ≡ cares_in one_byte_count file.now) }
+        ensures few { IfOk result (λ f. f.header.count ≤ most_rows) }
+    {
+        let [width, count, rest @ ..] = file else {
+            return Err(Refusal::FileLength);
+        };
+        let header = Header {
+            width: *width as usize,
+            count: *count as usize,
+        };
+        if rest.len() != 2 * header.count {
+            return Err(Refusal::FileLength);
+        }
+        let (values, cares) = rest.split_at(header.count);
+        Ok(ListFile {
+            header,
+            rows: Rows { values, cares },
+        })
     }
-    file.len() != file_length(count_in(file))
 }
 
-// Whether a row in a file is not formed. The values are a middle part of the file, and the cares the part right behind them.
-fn bad_row_in(n: usize, file: &[u8]) -> bool
-    requires { (n ≤ widest) × Whole one_byte_count file.now }
-    ensures { result ≡ bad_row n (rows_in one_byte_count file.now) }
-{
-    let count = count_in(file);
-    let behind = HEADER + count;
-    let end = behind + count;
-    lists::bad_row(n, &file[HEADER..behind], &file[behind..end])
-}
-
-// What a file is refused for: 10, 1, 7, or 0 where none of these holds.
-fn file_refusal(file: &[u8]) -> u8
-    ensures { result ≡ first_of (file_conditions one_byte_count file.now) }
-{
-    if wrong_length(file) {
-        return 10;
-    }
-    let n = width_in(file);
-    if spelling::bad_width(n) {
-        return 1;
-    }
-    if bad_row_in(n, file) {
-        return 7;
-    }
-    0
-}
-
-// Copies the values and the cares of a file into the first places of the arrays: a middle part of the file, and the part right behind it.
-fn copy_rows(file: &[u8], values: &mut [u8], cares: &mut [u8])
-    requires { Readable file.now values.old cares.old }
-    ensures values_after { values.new ≡ written 0 (values_in one_byte_count file.now) values.old }
-    ensures cares_after { cares.new ≡ written 0 (cares_in one_byte_count file.now) cares.old }
-{
-    let count = count_in(file);
-    let behind = HEADER + count;
-    let end = behind + count;
-    values[..count].copy_from_slice(&file[HEADER..behind]);
-    cares[..count].copy_from_slice(&file[behind..end]);
-}
-
-// Reads a list file into the first places of both arrays. Answers width and count, or the number of the refusal.
-pub fn read(file: &[u8], values: &mut [u8], cares: &mut [u8]) -> ReadBack
+// Reads a list file into the first places of both arrays. Answers width and count, or why it refuses.
+pub fn read(file: &[u8], values: &mut [u8], cares: &mut [u8]) -> Result<Header, Refusal>
     ensures { Reads one_byte_count file.now values.old cares.old values.new cares.new result }
 {
-    let k = file_refusal(file);
-    if k != 0 {
-        return ReadBack::Refused(k);
+    let ListFile { header, rows } = ListFile::new(file)?;
+    spelling::check_width(header.width)?;
+    rows.check_formed(header.width)?;
+    if values.len() < header.count || cares.len() < header.count {
+        return Err(Refusal::ShortOutput);
     }
-    let count = count_in(file);
-    if values.len() < count {
-        return ReadBack::Refused(4);
-    }
-    if cares.len() < count {
-        return ReadBack::Refused(4);
-    }
-    copy_rows(file, values, cares);
-    let width = width_in(file);
-    ReadBack::List { width, count }
+    values[..header.count].copy_from_slice(rows.values);
+    cares[..header.count].copy_from_slice(rows.cares);
+    Ok(header)
 }

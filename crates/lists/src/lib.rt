@@ -1,81 +1,85 @@
 // A list of rows in two arrays: what it is refused for.
 //
-//     lists::list_refusal(4, &[8], &[8])      // 0: value 8 and care 8 are a formed row
-//     lists::list_refusal(4, &[8], &[7])      // 7: value 8 has a one outside care 7
-#![tactic(auto)]
+//     Rows::formed(4, &[8], &[8])     // Ok: value 8 and care 8 are a formed row
+//     Rows::formed(4, &[8], &[7])     // Err(Refusal::UnformedRow): value 8 has a one outside care 7
+#![tactic(auto, using(cube::proofs::Calls::refusals, cube::proofs::Lists::rows_length))]
 
-ghost use Rattle.std.specs.Prelude.{◌≡◌, ◌≤◌, length};
-ghost use Rattle.cube.specs.Words.{formed, rows_of};
-ghost use Rattle.cube.specs.Calls.{widest, unequal_lengths, too_many_rows, bad_row, list_conditions, first_of};
+ghost use Rattle.std.specs.Prelude.{◌≡◌, ◌≤◌, [], ◌∷◌, length, IfOk, OnOk};
+ghost use Rattle.cube.specs.Words.{formed, all_formed, rows_of};
+ghost use Rattle.cube.specs.Calls.{widest, most_rows, bad_row, list_conditions, when, first_of, refusal_of};
 ghost use Rattle.lists.specs.Steps.{length_conditions};
+
+use cube::{Refusal, Row};
 
 // The most rows of a list.
 const MOST_ROWS: usize = 255;
 
-// Whether the two arrays differ in length.
-fn unequal_lengths(values: &[u8], cares: &[u8]) -> bool
-    ensures { result ≡ unequal_lengths values.now cares.now }
-{
-    values.len() != cares.len()
-}
-
-// Whether this many rows are more than a list may have.
-fn too_many_rows(rows: usize) -> bool
-    ensures { result ≡ too_many_rows rows }
-{
-    MOST_ROWS < rows
-}
-
-// What a call on a list refuses it for before it looks at a row: 5, 6, or 0 where neither holds.
-pub fn length_refusal(values: &[u8], cares: &[u8]) -> u8
-    ensures { result ≡ first_of (length_conditions values.now cares.now) }
-{
-    if unequal_lengths(values, cares) {
-        return 5;
-    }
-    if too_many_rows(values.len()) {
-        return 6;
-    }
-    0
-}
-
 // Whether a row is formed: care is below 2^n, and value has no one outside care.
-pub fn is_formed(n: usize, value: u8, care: u8) -> bool
+#[tactic(auto, unfolding(cube::specs::Words::formed))]
+pub fn is_formed(n: usize, row: Row) -> bool
     requires { n ≤ widest }
-    ensures { result ≡ formed n (record { value = value; care = care }) }
+    ensures { result ≡ formed n row }
 {
-    if spelling::codes(n) <= care as usize {
-        return false;
-    }
-    value & care == value
+    (row.care as usize) < spelling::codes(n) && row.value & row.care == row.value
 }
 
-// Whether a row is not formed.
-pub fn bad_row(n: usize, values: &[u8], cares: &[u8]) -> bool
-    requires { (n ≤ widest) × (length values.now ≡ length cares.now) }
-    ensures { result ≡ bad_row n (rows_of values.now cares.now) }
-{
-    let mut i = 0;
-    while i < values.len() {
-        if !is_formed(n, values[i], cares[i]) {
-            return true;
+// A list of rows in two arrays: row i is place i of the values with place i of the cares.
+#[derive(Clone, Copy)]
+pub struct Rows<'a> {
+    pub values: &'a [u8],
+    pub cares: &'a [u8],
+    pub ghost paired: { length values.now ≡ length cares.now },
+}
+
+impl<'a> Rows<'a> {
+    // The list in two arrays: refused for different lengths, then for more than 255 rows.
+    pub fn new(values: &'a [u8], cares: &'a [u8]) -> Result<Rows<'a>, Refusal>
+        ensures refusal { refusal_of result ≡ first_of (length_conditions values.now cares.now) }
+        ensures rows { IfOk result (λ r. (r.values.now ≡ values.now) × (r.cares.now ≡ cares.now)) }
+        ensures few { OnOk result (length values.now ≤ most_rows) }
+    {
+        if values.len() != cares.len() {
+            return Err(Refusal::UnequalLengths);
         }
-        i += 1;
+        if MOST_ROWS < values.len() {
+            return Err(Refusal::TooManyRows);
+        }
+        Ok(Rows { values, cares })
     }
-    false
-}
 
-// What a call on a list refuses it for: 5, 6, 7, or 0 where none of these holds.
-pub fn list_refusal(n: usize, values: &[u8], cares: &[u8]) -> u8
-    requires { n ≤ widest }
-    ensures { result ≡ first_of (list_conditions n values.now cares.now) }
-{
-    let k = length_refusal(values, cares);
-    if k != 0 {
-        return k;
+    // Whether every row is formed at width n.
+    fn all_formed(self, n: usize) -> bool
+        requires { n ≤ widest }
+        ensures { result ≡ all_formed n (rows_of self.entry.values.now self.entry.cares.now) }
+    {
+        self.values
+            .iter()
+            .zip(self.cares)
+            .all(|(&value, &care)| is_formed(n, Row { value, care }))
     }
-    if bad_row(n, values, cares) {
-        return 7;
+
+    // Refuses a row that is not formed at width n.
+    pub fn check_formed(self, n: usize) -> Result<(), Refusal>
+        requires { n ≤ widest }
+        ensures { refusal_of result
+            ≡ first_of (when (bad_row n (rows_of self.entry.values.now self.entry.cares.now)) 7 ∷ []) }
+    {
+        if self.all_formed(n) {
+            Ok(())
+        } else {
+            Err(Refusal::UnformedRow)
+        }
     }
-    0
+
+    // The list of rows of width n in two arrays: refused as `new` refuses it, then for a row that is not formed.
+    pub fn formed(n: usize, values: &'a [u8], cares: &'a [u8]) -> Result<Rows<'a>, Refusal>
+        requires { n ≤ widest }
+        ensures refusal { refusal_of result ≡ first_of (list_conditions n values.now cares.now) }
+        ensures rows { IfOk result (λ r. (r.values.now ≡ values.now) × (r.cares.now ≡ cares.now)) }
+        ensures few { OnOk result (length values.now ≤ most_rows) }
+    {
+        let rows = Rows::new(values, cares)?;
+        rows.check_formed(n)?;
+        Ok(rows)
+    }
 }

@@ -1,5 +1,6 @@
 -- The laws of words, of sets of columns and of sets of rows.
 pub mod Bits
+pub mod Sets
 pub mod Members
-pub mod Walks
+pub mod Loops
 pub mod Without

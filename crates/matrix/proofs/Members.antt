@@ -1,15 +1,18 @@
--- Sets of rows as words: what a word put in changes, two sets joined word by word, and the first row of a set. Assumes nothing.
+-- Sets of rows as words: what a word put in changes, two sets joined word by word, and what is left of the rows while they are gone through. Assumes nothing.
 use mathlib.Core.Path.{◌≡◌, refl, sym, ap, ap₂, ◌∙◌}
-use mathlib.Core.List.{List}
-use mathlib.Core.Bool.{Bool, true, false, ◌||◌}
-use Prim.Native.Nat.{ℕ, ◌+◌, ◌*◌, ◌/◌, ◌%◌, ◌≤◌, ◌<◌}
+use mathlib.Core.List.{List, [], ◌∷◌}
+use mathlib.Core.Bool.{Bool, true, false, not, ◌&&◌}
+use Prim.Native.Nat.{ℕ, suc, ◌+◌, ◌-◌, ◌*◌, ◌/◌, ◌%◌, ◌≤◌, ◌<◌}
 use native.Mathlib.Decide.{ℕ_discrete, dec_lt}
 use native.Mathlib.Omega.{arith}
-use lib.Dec.{eqb, ltb}
-use lib.ListN.{length, get_or, set, replicate, length-set, length-replicate, get_or-replicate, get_or-eq_default}
+use lib.Dec.{eqb, ltb, leb}
+use lib.ListN.{length, get_or, drop, set, replicate, length-replicate, get_or-replicate, get_or-eq_default}
 use lib.Seq.{get_or-set_same, get_or-set_other}
-use borrow.Author.Tests.{eq-eqb, ne_eqb, lt-ltb, le-ltb}
+use Rattle.std.proofs.lemmas.List.{get_or-drop}
+use borrow.Author.Tests.{eq-eqb, ne_eqb, lt-ltb, le-ltb, le-leb, lt-leb}
 use Rattle.matrix.specs.Sets.{word_bits, row_words, has_bit, member, Next}
+use Rattle.matrix.specs.Walks.{left_behind}
+use Rattle.numbers.proofs.Flags.{not_set}
 use Rattle.matrix.proofs.Bits.{has_zero}
 
 -- past a list's end there is no row
@@ -47,16 +50,11 @@ member_put op id s i w l e j = go (ℕ_discrete (j / word_bits) (i / word_bits))
         ∙ sym (id (has_bit (get_or s (j / word_bits) 0) (j % word_bits)))
         ∙ ap (λ (b : Bool). op b (has_bit (get_or s (j / word_bits) 0) (j % word_bits))) (sym (ne_eqb j i (λ z. d (ap (λ (x : ℕ). x / word_bits) z))))
 
--- one row more below a bound
-pub below_more : (j i : ℕ) → (eqb j i || ltb j i) ≡ ltb j (i + 1)
-below_more j i = go (ℕ_discrete j i) (dec_lt j i)
-  where
-    go : Dec (j ≡ i) → Dec (j < i) → (eqb j i || ltb j i) ≡ ltb j (i + 1)
-    go (yes e) d = ap (λ (b : Bool). b || ltb j i) (eq-eqb j i e) ∙ sym (lt-ltb j (i + 1) (omega arith))
-    go (no n) (yes l) = ap (λ (b : Bool). b || ltb j i) (ne_eqb j i n) ∙ lt-ltb j i l ∙ sym (lt-ltb j (i + 1) (omega arith))
-    go (no n) (no m) = ap (λ (b : Bool). b || ltb j i) (ne_eqb j i n) ∙ le-ltb j i (omega arith) ∙ sym (le-ltb j (i + 1) (omega arith))
-
 -- ---- two sets joined word by word, by an operation on flags
+
+-- of two flags the first alone
+abbrev pub lacking : Bool → Bool → Bool
+lacking x y = x && not y
 
 -- the words of s before k are those of a and b joined, and the others are those of a
 pub record Joined (op : Bool → Bool → Bool) (a b s : List ℕ) (k : ℕ) : Type 0 where
@@ -65,23 +63,6 @@ pub record Joined (op : Bool → Bool → Bool) (a b s : List ℕ) (k : ℕ) : T
   pub left : (m : ℕ) → k ≤ m → get_or s m 0 ≡ get_or a m 0
 
 module _ (op : Bool → Bool → Bool) (a b : List ℕ) where
-  pub joined_none : length a ≡ row_words → Joined op a b a 0
-  joined_none l = record { long = l; done = λ m x h. absurd (omega arith); left = λ m h. refl }
-
-  pub joined_more : (s : List ℕ) (k v : ℕ) → k < row_words → Joined op a b s k → ((x : ℕ) → has_bit v x ≡ op (has_bit (get_or s k 0) x) (has_bit (get_or b k 0) x))
-      → Joined op a b (set s k v) (k + 1)
-  joined_more s k v l h e = record {
-    long = length-set s k v ∙ h.long;
-    done = λ m x n. go m x n (ℕ_discrete m k);
-    left = λ m n. get_or-set_other s k m v 0 (λ z. omega arith) ∙ h.left m (omega arith);
-  }
-    where
-      go : (m x : ℕ) → m < k + 1 → Dec (m ≡ k) → has_bit (get_or (set s k v) m 0) x ≡ op (has_bit (get_or a m 0) x) (has_bit (get_or b m 0) x)
-      go m x n (yes d) =
-          ap (λ (y : ℕ). has_bit (get_or (set s k v) y 0) x) d ∙ ap (λ (y : ℕ). has_bit y x) (get_or-set_same s k v 0 (omega (arith, h.long))) ∙ e x
-          ∙ ap (λ (y : ℕ). op (has_bit y x) (has_bit (get_or b k 0) x)) (h.left k (omega arith)) ∙ ap (λ (y : ℕ). op (has_bit (get_or a y 0) x) (has_bit (get_or b y 0) x)) (sym d)
-      go m x n (no d) = ap (λ (y : ℕ). has_bit y x) (get_or-set_other s k m v 0 d) ∙ h.done m x (omega arith)
-
   pub joined_all : op false false ≡ false → length a ≡ row_words → length b ≡ row_words → (s : List ℕ) (k : ℕ) → Joined op a b s k → row_words ≤ k → (j : ℕ) → member s j ≡ op (member a j) (member b j)
   unfolding member
   joined_all e l m s k h g j = go (dec_lt (j / word_bits) row_words)
@@ -90,32 +71,145 @@ module _ (op : Bool → Bool → Bool) (a b : List ℕ) where
       go (yes n) = h.done (j / word_bits) (j % word_bits) (omega arith)
       go (no n) = member_past s j (omega (arith, h.long)) ∙ sym e ∙ ap₂ op (sym (member_past a j (omega arith))) (sym (member_past b j (omega arith)))
 
--- ---- the first row
+-- ---- going through the rows
 
--- what stands in the word of the row i from that row on
-word_before : (s : List ℕ) (i c j : ℕ) → Next (has_bit (get_or s (i / word_bits) 0)) (i % word_bits) word_bits c → i ≤ j → j < i / word_bits * word_bits + c → member s j ≡ false
+-- a row in the first of some words, and behind it
+member_first : (word : ℕ) (rest : List ℕ) (i : ℕ) → i < word_bits → member (word ∷ rest) i ≡ has_bit word i
 unfolding member
-word_before s i c j h l m = let e : j / word_bits ≡ i / word_bits = omega (arith, h.within) in
-    ap (λ (x : ℕ). has_bit (get_or s x 0) (j % word_bits)) e ∙ h.before (j % word_bits) (omega arith) (omega arith)
+member_first word rest i l =
+    let d : i / word_bits ≡ 0 = omega arith in
+    let m : i % word_bits ≡ i = omega arith in
+    ap₂ (λ (k x : ℕ). has_bit (get_or (word ∷ rest) k 0) x) d m
 
-word_here : (s : List ℕ) (i c : ℕ) → Next (has_bit (get_or s (i / word_bits) 0)) (i % word_bits) word_bits c → c < word_bits → member s (i / word_bits * word_bits + c) ≡ true
+member_behind : (word : ℕ) (rest : List ℕ) (i : ℕ) → word_bits ≤ i → member (word ∷ rest) i ≡ member rest (i - word_bits)
 unfolding member
-word_here s i c h l =
-    let e : (i / word_bits * word_bits + c) / word_bits ≡ i / word_bits = omega arith in
-    let f : (i / word_bits * word_bits + c) % word_bits ≡ c = omega arith in
-    ap (λ (x : ℕ). has_bit (get_or s x 0) ((i / word_bits * word_bits + c) % word_bits)) e ∙ ap (has_bit (get_or s (i / word_bits) 0)) f ∙ h.here l
+member_behind word rest i l =
+    let d : i / word_bits ≡ suc ((i - word_bits) / word_bits) = omega arith in
+    let m : i % word_bits ≡ (i - word_bits) % word_bits = omega arith in
+    ap₂ (λ (k x : ℕ). has_bit (get_or (word ∷ rest) k 0) x) d m
 
-module _ (s : List ℕ) (from end i c : ℕ) (passed : (j : ℕ) → from ≤ j → j < i → member s j ≡ false) (word : Next (has_bit (get_or s (i / word_bits) 0)) (i % word_bits) word_bits c) where
-  -- no row stands before the one that the word of i shows
-  pub passed_word : (j : ℕ) → from ≤ j → j < i / word_bits * word_bits + c → member s j ≡ false
-  passed_word j l m = go (dec_lt j i)
-    where
-      go : Dec (j < i) → member s j ≡ false
-      go (yes n) = passed j l n
-      go (no n) = word_before s i c j word (omega arith) m
+-- at first each row of the set is left
+pub left_first : (set : List ℕ) (w : ℕ) (rest : List ℕ) → w ≡ get_or set 0 0 → rest ≡ drop 1 set → (j : ℕ) → left_behind (w ∷ rest) 0 j ≡ member set j
+left_first set w rest e f j =
+    let i : j - 0 ≡ j = omega arith in
+    ap (λ (b : Bool). b && member (w ∷ rest) (j - 0)) (le-leb 0 j (omega arith)) ∙ ap (member (w ∷ rest)) i ∙ ap₂ (λ (w : ℕ) (l : List ℕ). member (w ∷ l) j) e f
+    ∙ whole set
+  where
+    whole : (set : List ℕ) → member (get_or set 0 0 ∷ drop 1 set) j ≡ member set j
+    whole [] = member_none 1 j ∙ sym (member_past [] j (omega arith))
+    whole (x ∷ words) = refl
 
-  pub next_found : from ≤ i → c < word_bits → i / word_bits * word_bits + c < end → Next (member s) from end (i / word_bits * word_bits + c)
-  next_found f l h = record { above = omega (arith, word.above); within = omega arith; before = passed_word; here = λ n. word_here s i c word l }
+module _ (word : ℕ) (rest : List ℕ) (base : ℕ) where
+  -- what is left, of a row before the word, in it, and behind it
+  module _ (j : ℕ) where
+    left_no : j < base → left_behind (word ∷ rest) base j ≡ false
+    left_no l = ap (λ (b : Bool). b && member (word ∷ rest) (j - base)) (lt-leb base j l)
 
-  pub next_past : from ≤ end → end ≤ i / word_bits * word_bits + c → Next (member s) from end end
-  next_past f h = record { above = f; within = omega arith; before = λ j l m. passed_word j l (omega arith); here = λ n. absurd (omega arith) }
+    left_bit : base ≤ j → j - base < word_bits → left_behind (word ∷ rest) base j ≡ has_bit word (j - base)
+    left_bit l m = ap (λ (b : Bool). b && member (word ∷ rest) (j - base)) (le-leb base j l) ∙ member_first word rest (j - base) m
+
+    left_row : base ≤ j → word_bits ≤ j - base → left_behind (word ∷ rest) base j ≡ member rest (j - base - word_bits)
+    left_row l m = ap (λ (b : Bool). b && member (word ∷ rest) (j - base)) (le-leb base j l) ∙ member_behind word rest (j - base) m
+
+  module _ (none : (b : ℕ) → has_bit word b ≡ true → ⊥) where
+    -- where no bit is left of the word, what is left begins with the next word
+    pub left_next : (j : ℕ) → left_behind rest (base + word_bits) j ≡ left_behind (word ∷ rest) base j
+    left_next j = go (dec_lt j base) (dec_lt j (base + word_bits))
+      where
+        off : (b : Bool) → b ≡ false → (b && member rest (j - (base + word_bits))) ≡ false
+        off b e = ap (λ (b : Bool). b && member rest (j - (base + word_bits))) e
+
+        go : Dec (j < base) → Dec (j < base + word_bits) → left_behind rest (base + word_bits) j ≡ left_behind (word ∷ rest) base j
+        go (yes l) d = off _ (lt-leb (base + word_bits) j (omega arith)) ∙ sym (left_no j l)
+        go (no n) (yes l) = off _ (lt-leb (base + word_bits) j l) ∙ sym (left_bit j (omega arith) (omega arith) ∙ not_set _ (none (j - base)))
+        go (no n) (no m) = let e : j - (base + word_bits) ≡ j - base - word_bits = omega arith in
+            ap (λ (b : Bool). b && member rest (j - (base + word_bits))) (le-leb (base + word_bits) j (omega arith)) ∙ ap (member rest) e
+            ∙ sym (left_row j (omega arith) (omega arith))
+
+    -- and nothing is left where the word is the last before the end, or no word is behind it
+    pub left_none : (j : ℕ) → j < base + word_bits → left_behind (word ∷ rest) base j ≡ false
+    left_none j l = go (dec_lt j base)
+      where
+        go : Dec (j < base) → left_behind (word ∷ rest) base j ≡ false
+        go (yes n) = left_no j n
+        go (no n) = left_bit j (omega arith) (omega arith) ∙ not_set _ (none (j - base))
+
+    pub left_end : length rest ≡ 0 → (j : ℕ) → left_behind (word ∷ rest) base j ≡ false
+    left_end e j = go (dec_lt j (base + word_bits))
+      where
+        go : Dec (j < base + word_bits) → left_behind (word ∷ rest) base j ≡ false
+        go (yes l) = left_none j l
+        go (no n) =
+            left_row j (omega arith) (omega arith) ∙ member_past rest (j - base - word_bits) (omega arith)
+
+  -- the first bit of the word is the first row that is left
+  module _ (b : ℕ) (first : (b < word_bits) × Next (has_bit word) 0 word_bits b) where
+    pub left_here : left_behind (word ∷ rest) base (base + b) ≡ true
+    left_here = let e : base + b - base ≡ b = omega arith in left_bit (base + b) (omega arith) (omega (arith, first.0)) ∙ ap (has_bit word) e ∙ first.1.here first.0
+
+    pub left_before : (j : ℕ) → j < base + b → left_behind (word ∷ rest) base j ≡ false
+    left_before j l = go (dec_lt j base)
+      where
+        go : Dec (j < base) → left_behind (word ∷ rest) base j ≡ false
+        go (yes n) = left_no j n
+        go (no n) = left_bit j (omega arith) (omega (arith, first.0)) ∙ first.1.before (j - base) (omega arith) (omega arith)
+
+    pub left_after : (w : ℕ) → ((x : ℕ) → has_bit w x ≡ (ltb b x && has_bit word x)) → (j : ℕ)
+        → left_behind (w ∷ rest) base j ≡ (ltb (base + b) j && left_behind (word ∷ rest) base j)
+    left_after w e j = go (dec_lt j base) (dec_lt j (base + word_bits))
+      where
+        same : base ≤ j → ltb b (j - base) ≡ ltb (base + b) j
+        same d = at (dec_lt b (j - base))
+          where
+            at : Dec (b < j - base) → ltb b (j - base) ≡ ltb (base + b) j
+            at (yes l) = lt-ltb b (j - base) l ∙ sym (lt-ltb (base + b) j (omega arith))
+            at (no n) = le-ltb b (j - base) (omega arith) ∙ sym (le-ltb (base + b) j (omega arith))
+
+        go : Dec (j < base) → Dec (j < base + word_bits) → left_behind (w ∷ rest) base j ≡ (ltb (base + b) j && left_behind (word ∷ rest) base j)
+        go (yes l) d =
+            ap (λ (t : Bool). t && member (w ∷ rest) (j - base)) (lt-leb base j l)
+            ∙ sym (ap (λ (t : Bool). t && left_behind (word ∷ rest) base j) (le-ltb (base + b) j (omega arith)))
+        go (no n) (yes l) =
+            ap (λ (t : Bool). t && member (w ∷ rest) (j - base)) (le-leb base j (omega arith)) ∙ member_first w rest (j - base) (omega arith) ∙ e (j - base)
+            ∙ ap (λ (t : Bool). t && has_bit word (j - base)) (same (omega arith))
+            ∙ ap (λ (t : Bool). ltb (base + b) j && t) (sym (left_bit j (omega arith) (omega arith)))
+        go (no n) (no m) =
+            ap (λ (t : Bool). t && member (w ∷ rest) (j - base)) (le-leb base j (omega arith)) ∙ member_behind w rest (j - base) (omega arith)
+            ∙ sym (left_row j (omega arith) (omega arith))
+            ∙ sym (ap (λ (t : Bool). t && left_behind (word ∷ rest) base j) (lt-ltb (base + b) j (omega (arith, first.0))))
+
+-- the rows from `from` on are what is left where the word has lost its bits below
+pub left_from : (set : List ℕ) (from w : ℕ) → ((x : ℕ) → x < word_bits → has_bit w x ≡ (leb (from % word_bits) x && has_bit (get_or set (from / word_bits) 0) x)) → (j : ℕ)
+    → left_behind (w ∷ drop (from / word_bits + 1) set) (from / word_bits * word_bits) j ≡ (leb from j && member set j)
+unfolding member
+left_from set from w e j = go (dec_lt j (from / word_bits * word_bits)) (dec_lt j (from / word_bits * word_bits + word_bits))
+  where
+    in_word : j / word_bits ≡ from / word_bits → has_bit (get_or set (from / word_bits) 0) (j - from / word_bits * word_bits) ≡ member set j
+    in_word d =
+        let m : j - from / word_bits * word_bits ≡ j % word_bits = omega arith in
+        ap₂ (λ (k x : ℕ). has_bit (get_or set k 0) x) (sym d) m
+
+    in_rest : from / word_bits < j / word_bits → member (drop (from / word_bits + 1) set) (j - from / word_bits * word_bits - word_bits) ≡ member set j
+    in_rest l =
+        let i : ℕ = j - from / word_bits * word_bits - word_bits in
+        let m : i % word_bits ≡ j % word_bits = omega arith in
+        let k : from / word_bits + 1 + i / word_bits ≡ j / word_bits = omega arith in
+        ap₂ has_bit (get_or-drop (from / word_bits + 1) set (i / word_bits) 0 ∙ ap (λ (k : ℕ). get_or set k 0) k) m
+
+    same : j / word_bits ≡ from / word_bits → leb (from % word_bits) (j - from / word_bits * word_bits) ≡ leb from j
+    same d = at (dec_lt j from)
+      where
+        at : Dec (j < from) → leb (from % word_bits) (j - from / word_bits * word_bits) ≡ leb from j
+        at (yes l) = lt-leb (from % word_bits) (j - from / word_bits * word_bits) (omega arith) ∙ sym (lt-leb from j l)
+        at (no n) = le-leb (from % word_bits) (j - from / word_bits * word_bits) (omega arith) ∙ sym (le-leb from j (omega arith))
+
+    go : Dec (j < from / word_bits * word_bits) → Dec (j < from / word_bits * word_bits + word_bits)
+        → left_behind (w ∷ drop (from / word_bits + 1) set) (from / word_bits * word_bits) j ≡ (leb from j && member set j)
+    go (yes l) d =
+        left_no w (drop (from / word_bits + 1) set) (from / word_bits * word_bits) j l ∙ sym (ap (λ (t : Bool). t && member set j) (lt-leb from j (omega arith)))
+    go (no n) (yes l) =
+        left_bit w (drop (from / word_bits + 1) set) (from / word_bits * word_bits) j (omega arith) (omega arith) ∙ e (j - from / word_bits * word_bits) (omega arith)
+        ∙ ap₂ ◌&&◌ (same (omega arith)) (in_word (omega arith))
+    go (no n) (no m) =
+        left_row w (drop (from / word_bits + 1) set) (from / word_bits * word_bits) j (omega arith) (omega arith) ∙ in_rest (omega arith)
+        ∙ sym (ap (λ (t : Bool). t && member set j) (le-leb from j (omega arith)))

@@ -1,19 +1,20 @@
 -- Sets with something left out, and rows past the last one: what the contracts of `without` and `without_row` mean for members, for the number of rows and
 -- for covers. Assumes nothing.
 use mathlib.Core.Path.{◌≡◌, refl, sym, ap, ◌∙◌}
+use mathlib.Core.Logic.{◌⊎◌, inl, inr}
 use mathlib.Core.List.{List}
 use mathlib.Core.Bool.{Bool, true, false, not, ◌&&◌, ◌||◌, and-true}
 use Prim.Native.Nat.{ℕ, ◌+◌, ◌≤◌, ◌<◌}
 use native.Mathlib.Decide.{dec_lt, ℕ_discrete}
 use native.Mathlib.Omega.{arith}
 use lib.Dec.{eqb}
-use lib.ListN.{length, get_or-eq_default}
+use lib.ListN.{length, get_or, get_or-eq_default}
 use borrow.Author.Tests.{eq-eqb, ne_eqb}
 use Rattle.covering.specs.Sum.{if_set}
 use Rattle.covering.specs.Weighted.{set_size}
 use Rattle.numbers.proofs.Flags.{clash, not_set, kept_of_lem}
 use Rattle.covering.proofs.Sums.{sum_mono, sum_most, sum_with, if_set_mono, if_set_le}
-use Rattle.matrix.specs.Sets.{has, member, Member}
+use Rattle.matrix.specs.Sets.{has_bit, has, member, Member}
 use Rattle.matrix.specs.Matrix.{CoversColumn}
 use Rattle.matrix.proofs.Bits.{has_zero}
 
@@ -52,6 +53,14 @@ size_most n s = omega (arith, sum_most n 1 {f = λ i. if_set (member s i) 1} (λ
 
 pub covers_past : (words : List ℕ) (i c : ℕ) → length words ≤ i → CoversColumn words i c → ⊥
 covers_past words i c l h = clash h (ap (λ (x : ℕ). has x c) (get_or-eq_default words 0 l) ∙ has_zero c)
+
+-- so a row that covers something is before the end, as `grind` takes it
+pub covers_within : (words : List ℕ) (i c : ℕ) → (has_bit (get_or words i 0) c ≡ false) ⊎ (i < length words)
+covers_within words i c = go (dec_lt i (length words))
+  where
+    go : Dec (i < length words) → (has_bit (get_or words i 0) c ≡ false) ⊎ (i < length words)
+    go (yes l) = inr l
+    go (no n) = inl (not_set (has_bit (get_or words i 0) c) (covers_past words i c (omega arith)))
 
 -- so what holds of each row before the end holds of each that covers something
 pub each_row_lem : (words : List ℕ) (P : ℕ → Type 0) (c n : ℕ) → length words ≤ n → ((i : ℕ) → i < n → CoversColumn words i c → P i) → (i : ℕ) → CoversColumn words i c → P i

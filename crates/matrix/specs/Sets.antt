@@ -1,5 +1,5 @@
 -- Sets as bits of words: columns as one word, by `ColumnSets`, and rows as a list of words. Definitions only. Assumes nothing.
-use Rattle.std.specs.Prelude.{◌≡◌, List, Bool, true, false, ◌&&◌, ℕ, ◌-◌, ◌*◌, ◌/◌, ◌%◌, ◌≤◌, ◌<◌, ltb, leb, get_or}
+use Rattle.std.specs.Prelude.{◌≡◌, List, Bool, true, false, ◌&&◌, ℕ, ◌-◌, ◌*◌, ◌/◌, ◌%◌, ◌≤◌, ◌<◌, ltb, leb, get_or, Option, MatchOption}
 pub use Rattle.matrix.specs.ColumnSets.{ColumnSet, has}
 unfoldable pub use Rattle.matrix.specs.ColumnSets.{has_bit}
 
@@ -68,3 +68,7 @@ pub record Next (p : ℕ → Bool) (from end r : ℕ) : Type 0 where
   pub within : r ≤ end
   pub before : (i : ℕ) → from ≤ i → i < r → p i ≡ false
   pub here : r < end → p r ≡ true
+
+-- the same, as an option: r is the first number from `from` on and before `end` that p holds of, or `None` where it holds of none
+abbrev pub NextIfAny : (ℕ → Bool) → ℕ → ℕ → Option ℕ → Type 0
+NextIfAny p from end r = MatchOption r (Next p from end end) (λ i. (i < end) × Next p from end i)

@@ -1,129 +1,240 @@
 // Sets of rows: arrays of twelve words of 64 bits.
-ghost use Rattle.std.specs.Prelude.{◌≡◌, false, not, ◌&&◌, ◌||◌, ℕ, ◌≤◌, ◌<◌, eqb, ltb};
+ghost use Rattle.std.specs.Prelude.{◌≡◌, true, false, not, ◌&&◌, ◌||◌, ℕ, ◌+◌, ◌≤◌, ◌<◌, eqb, ltb, drop, get_or, MatchOption};
 ghost use Rattle.covering.specs.Weighted.{set_size};
-ghost use Rattle.matrix.specs.Sets.{row_limit, member, Next};
+ghost use Rattle.matrix.specs.Sets.{row_limit, row_words, member, Member, NextIfAny};
 
-use crate::words;
+use crate::words::{self, Word};
+use std::marker::Model;
 
 // The words of a set.
 const WORDS: usize = 12;
 
-// A set of rows.
-pub type Set = [words::Word; WORDS];
-
 // A set has rows below this number.
 pub const LIMIT: usize = WORDS * words::BITS;
 
-// No row.
-pub fn none() -> Set
-    ensures { (j : ℕ) → member result j ≡ false }
-{
-    [0u64; WORDS]
+// A set of rows.
+#[derive(Clone, Copy)]
+pub struct Set {
+    words: [Word; WORDS],
 }
 
-// Whether a set has the row i.
-pub fn has(set: &Set, i: usize) -> bool
-    requires { i < row_limit }
-    ensures { result ≡ member set.now i }
-{
-    let k = i / words::BITS;
-    words::has(set[k], i % words::BITS)
+impl Model for Set {
+    ghost use Rattle.std.specs.Prelude.{◌≡◌, List, ℕ, length};
+    ghost use Rattle.matrix.specs.Sets.{row_words};
+
+    ghost Value = { List ℕ };
+
+    ghost view = { λ s. s.words };
+
+    ghost invariant = { λ s. length s.words ≡ row_words };
+
+    ghost inverse = { λ l. record { words = l } };
 }
 
-// A set with the row i.
-pub fn with_row(set: Set, i: usize) -> Set
-    requires { i < row_limit }
-    ensures { (j : ℕ) → member result j ≡ (eqb j i || member set j) }
-{
-    let mut more = set;
-    let k = i / words::BITS;
-    more[k] = words::either(words::only(i % words::BITS), more[k]);
-    more
-}
+impl Set {
+    ghost use Rattle.std.specs.Iterator.Runs.{EachRunFrom};
+    ghost use Rattle.numbers.specs.Ascending.{GivesBelow};
+    ghost use Rattle.matrix.specs.Walks.{rows_end, rows_left, YieldsRows};
 
-// A set without the row i.
-pub fn without_row(set: Set, i: usize) -> Set
-    requires { i < row_limit }
-    ensures { (j : ℕ) → member result j ≡ (member set j && not (eqb j i)) }
-{
-    let mut fewer = set;
-    let k = i / words::BITS;
-    fewer[k] = words::without(fewer[k], words::only(i % words::BITS));
-    fewer
-}
-
-// The rows of either set.
-pub fn either(a: Set, b: Set) -> Set
-    ensures { (j : ℕ) → member result j ≡ (member a j || member b j) }
-{
-    let mut set = a;
-    let mut k: usize = 0;
-    while k < WORDS {
-        set[k] = words::either(set[k], b[k]);
-        k += 1;
+    // The word k.
+    #[inline]
+    fn word(&self, k: usize) -> Word
+        requires { k < row_words }
+        ensures { result ≡ get_or self.now k 0 }
+    {
+        self.words[k]
     }
-    set
-}
 
-// The rows of a that b lacks.
-pub fn without(a: Set, b: Set) -> Set
-    ensures { (j : ℕ) → member result j ≡ (member a j && not (member b j)) }
-{
-    let mut set = a;
-    let mut k: usize = 0;
-    while k < WORDS {
-        set[k] = words::without(set[k], b[k]);
-        k += 1;
+    // The words behind the word k.
+    #[inline]
+    fn behind(&self, k: usize) -> &[Word]
+        requires { k < row_words }
+        ensures { result.now ≡ drop (k + 1) self.now }
+    {
+        let words = &self.words[..];
+        &words[k + 1..]
     }
-    set
-}
 
-// The rows below n.
-pub fn below(n: usize) -> Set
-    requires { n ≤ row_limit }
-    ensures { (j : ℕ) → member result j ≡ ltb j n }
-{
-    let mut set = none();
-    let mut i: usize = 0;
-    while i < n {
-        let more = with_row(set, i);
-        set = more;
-        i += 1;
-    }
-    set
-}
-
-// The first row of a set from `from` on and before `end`, or `end` where there is none.
-pub fn next(set: &Set, from: usize, end: usize) -> usize
-    requires { (from ≤ end) × (end ≤ row_limit) }
-    ensures { Next (member set.now) from end result }
-{
-    let mut i = from;
-    while i < end {
-        let k = i / words::BITS;
-        let c = words::next(set[k], i % words::BITS);
-        if c < words::BITS {
-            let found = k * words::BITS + c;
-            if found < end {
-                return found;
-            }
-            return end;
+    // No row.
+    pub fn none() -> Set
+        ensures { (j : ℕ) → member result j ≡ false }
+    {
+        Set {
+            words: [Word::EMPTY; WORDS],
         }
-        i = (k + 1) * words::BITS;
     }
-    end
+
+    // The rows below n.
+    pub fn below(n: usize) -> Set
+        requires { n ≤ row_limit }
+        ensures { (j : ℕ) → member result j ≡ ltb j n }
+    {
+        let mut set = Set::none();
+        for i in 0..n {
+            set.insert(i);
+        }
+        set
+    }
+
+    // Whether the row i is in the set.
+    #[inline]
+    pub fn contains(&self, i: usize) -> bool
+        requires { i < row_limit }
+        ensures { result ≡ member self.now i }
+    {
+        self.word(i / words::BITS).contains(i % words::BITS)
+    }
+
+    // The row i more.
+    #[inline]
+    pub fn insert(&mut self, i: usize)
+        requires { i < row_limit }
+        ensures { (j : ℕ) → member self.new j ≡ (eqb j i || member self.old j) }
+    {
+        let k = i / words::BITS;
+        let word = Word::only(i % words::BITS) | self.word(k);
+        self.words[k] = word;
+    }
+
+    // The set without the row i.
+    #[inline]
+    pub fn remove(&mut self, i: usize)
+        requires { i < row_limit }
+        ensures { (j : ℕ) → member self.new j ≡ (member self.old j && not (eqb j i)) }
+    {
+        let k = i / words::BITS;
+        let word = self.word(k) - Word::only(i % words::BITS);
+        self.words[k] = word;
+    }
+
+    // The rows of either set.
+    pub fn union(&self, other: &Set) -> Set
+        ensures { (j : ℕ) → member result j ≡ (member self.now j || member other.now j) }
+    {
+        let mut set = *self;
+        for k in 0..WORDS {
+            set.words[k] = set.words[k] | other.words[k];
+        }
+        set
+    }
+
+    // The rows that the other set lacks. (Not one function with `union`: to a closure for the word it would have to promise the lengths of three lists.)
+    pub fn difference(&self, other: &Set) -> Set
+        ensures { (j : ℕ) → member result j ≡ (member self.now j && not (member other.now j)) }
+    {
+        let mut set = *self;
+        for k in 0..WORDS {
+            set.words[k] = set.words[k] - other.words[k];
+        }
+        set
+    }
+
+    // The rows before `end`, ascending.
+    #[inline]
+    pub fn iter(&self, end: usize) -> Rows<'_>
+        requires { end ≤ row_limit }
+        ensures end { rows_end result ≡ end }
+        ensures set { (j : ℕ) → rows_left result j ≡ member self.now j }
+        ensures runs { EachRunFrom YieldsRows result (GivesBelow end (member self.now)) }
+    {
+        Rows {
+            word: u64::from(self.word(0)),
+            rest: self.behind(0),
+            base: 0,
+            end,
+        }
+    }
+
+    // The first row from `from` on and before `end`.
+    pub fn next_from(&self, from: usize, end: usize) -> Option<usize>
+        requires { (from ≤ end) × (end ≤ row_limit) }
+        ensures { NextIfAny (member self.now) from end result }
+    {
+        if from == LIMIT {
+            return None;
+        }
+        let place = from / words::BITS;
+        let word = self.word(place) >> from % words::BITS << from % words::BITS;
+        let mut left = Rows {
+            word: u64::from(word),
+            rest: self.behind(place),
+            base: place * words::BITS,
+            end,
+        };
+        left.next()
+    }
+
+    // How many rows before `end` a set has.
+    #[tactic(auto, using(crate::proofs::Sets::rows_counted))]
+    pub fn len(&self, end: usize) -> usize
+        requires { end ≤ row_limit }
+        ensures { result ≡ set_size end (member self.now) }
+    {
+        self.iter(end).count()
+    }
+
+    // Of the rows before `end` that `can` accepts, the first that none is better than.
+    pub fn best<C: Fn(usize) -> bool, B: Fn(usize, usize) -> bool>(
+        &self,
+        end: usize,
+        can: C,
+        better: B,
+    ) -> Option<usize>
+        requires limit { end ≤ row_limit }
+        requires can { (i : ℕ) → i < end → Member self.now i → C.pre can i }
+        requires better { (i j : ℕ) → i < end → j < end → B.pre better i j }
+        ensures { MatchOption result ((i : ℕ) → i < end → Member self.now i → C.post can i false) (λ i. (i < end) × Member self.now i × C.post can i true) }
+    {
+        let mut best = None;
+        for i in self.iter(end) {
+            if can(i) {
+                best = match best {
+                    Some(j) if !better(i, j) => Some(j),
+                    _ => Some(i),
+                };
+            }
+        }
+        best
+    }
 }
 
-// How many rows before `end` a set has.
-pub fn size(set: &Set, end: usize) -> usize
-    requires { end ≤ row_limit }
-    ensures { result ≡ set_size end (member set.now) }
-{
-    let mut n: usize = 0;
-    let mut i = next(set, 0, end);
-    while i < end {
-        n += 1;
-        i = next(set, i + 1, end);
+// The rows of a set before `end`, ascending: what is left of a word, whose first row is `base`, and the words behind it. The word is a number here, since
+// no adapter of an iterator is proved over a struct that holds a struct with a model beside a reference.
+#[derive(Clone, Copy)]
+pub struct Rows<'a> {
+    word: u64,
+    rest: &'a [Word],
+    base: usize,
+    end: usize,
+}
+
+impl<'a> Iterator for Rows<'a> {
+    type Item = usize;
+
+    ghost use Rattle.matrix.specs.Walks.{YieldsRows, rows_count};
+
+    ghost next_gives = { YieldsRows };
+
+    ghost remaining = { rows_count };
+
+    #[inline]
+    fn next(&mut self) -> Option<usize> {
+        while Word::from(self.word).is_empty() {
+            if self.end.saturating_sub(self.base) <= words::BITS {
+                return None;
+            }
+            let (word, rest) = self.rest.split_first()?;
+            self.word = u64::from(*word);
+            self.rest = rest;
+            self.base += words::BITS;
+        }
+        let word = Word::from(self.word);
+        let b = word.first()?;
+        self.word = u64::from(word.without_first());
+        if b < self.end.saturating_sub(self.base) {
+            Some(self.base + b)
+        } else {
+            None
+        }
     }
-    n
 }

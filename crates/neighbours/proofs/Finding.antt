@@ -4,25 +4,28 @@ use mathlib.Core.Path.{◌≡◌, refl, sym, ap, ap₂, ◌∙◌, subst⁻¹}
 use mathlib.Core.Bool.{Bool, true, false, cond, not, ◌&&◌, ◌||◌}
 use mathlib.Core.List.{List, []}
 use Prim.Native.Nat.{ℕ, ◌+◌, ◌^◌, ◌<◌, ◌≤◌}
+use native.Mathlib.Nat.{le_trans}
 use native.Mathlib.Numerals.{add-one}
 use native.Mathlib.Omega.{arith}
 use lib.Dec.{T, eqb, eqb→eq}
-use lib.ListN.{length, take}
+use lib.ListN.{length, take, get_or}
 use lib.Seq.{length-take-le}
+use Rattle.std.proofs.Common.{Ok, Err}
+use Rattle.std.specs.List.Sorted.{IsBinarySearchResult}
+use Rattle.std.specs.Ordering.{nat_cmp}
 use Rattle.numbers.specs.Below.{some, those}
 use Rattle.numbers.specs.Lent.{Puts}
 use Rattle.cube.specs.Words.{on_set, off_set, cube_matches, implicant, essential, essentials_of}
 use Rattle.numbers.proofs.Bools.{and_l, and_r, and_i, same, eqb_of}
-use Rattle.numbers.proofs.Below.{every_fails, some_at, some_by, some_same, those_same, those_none, those-length}
-use Rattle.numbers.proofs.Lent.{puts_same, puts_there}
+use Rattle.numbers.proofs.Below.{every_fails, some_at, some_by, some_same, those_same, those_none, those-length, those_ascend}
+use Rattle.numbers.proofs.Lent.{puts_same, puts_long, puts_over, puts_there, front_count, front_lent}
 use Rattle.cube.proofs.Rows.{agrees_is_cube}
-use Rattle.neighbours.specs.declared.ascending.Place.TheVariants.{There, Before}
 use Rattle.neighbours.specs.Vicinity.{kept_bits, vicinity}
-use Rattle.neighbours.specs.Steps.{barred_match, found_at, found_below, inserted, inserted_at, PlaceOf, FoundSoFar}
+use Rattle.neighbours.specs.Steps.{barred_match, found_at, found_below, inserted, inserted_at, FoundSoFar}
 use Rattle.neighbours.proofs.Vicinity.{vicinity_digits}
 use Rattle.neighbours.proofs.Theorems.{essentials_from_neighbours}
 use Rattle.neighbours.proofs.Reading.{kept_lt}
-use Rattle.neighbours.proofs.Inserting.{inserted_longer, those-inserted, at_length}
+use Rattle.neighbours.proofs.Inserting.{found_there, found_before, inserted_longer, those-inserted, at_length}
 
 -- a barred code agrees in the kept bits exactly when the cube is no implicant
 implicant_by_bits : (n : ℕ) (t : List ℕ) (c : ℕ) → implicant n t (vicinity n t c) ≡ not (some (2 ^ n) (barred_match t c (kept_bits n t c)))
@@ -63,6 +66,10 @@ module _ (n : ℕ) (t : List ℕ) where
         go true = sym (those-inserted before (vicinity n t c) (3 ^ n) (vicinity_digits n t c).below)
         go false = refl
 
+    pub found_same : on_set t c ≡ false → found_below n t (c + 1) ≡ found_below n t c
+    found_same e =
+        found_more ∙ ap (λ (b : Bool). cond (b && implicant n t (vicinity n t c)) (inserted (vicinity n t c) (found_below n t c)) (found_below n t c)) e
+
     pub found_grows : length (found_below n t c) ≤ length (found_below n t (c + 1))
     found_grows = subst⁻¹ (λ (xs : List ℕ). length (found_below n t c) ≤ length xs) found_more (go (on_set t c && implicant n t (vicinity n t c)))
       where
@@ -101,16 +108,18 @@ module _ (n : ℕ) (t : List ℕ) where
 
 -- ---- the places, with one code more
 
-module _ (n : ℕ) (t out : List ℕ) (c count : ℕ) (l : FoundSoFar n t out c count) where
+module _ (n : ℕ) (t out : List ℕ) (c count : ℕ) (cells : length t ≡ 2 ^ n) (l : FoundSoFar n t out c count) where
   pub listed_inside : count ≤ length out
   listed_inside = omega (arith, l.counts, l.room, found_most n t c)
 
+  rises : (i j : ℕ) → i < j → j < length (take count out) → get_or (take count out) i 0 < get_or (take count out) j 0
+  unfolding found_below
+  rises =
+      subst⁻¹ (λ (xs : List ℕ). (i j : ℕ) → i < j → j < length xs → get_or xs i 0 < get_or xs j 0) l.listed
+      (those_ascend (λ q. some c (λ i. found_at n t i q)) (3 ^ n))
+
   stays : found_below n t (c + 1) ≡ found_below n t c → Puts (found_below n t (c + 1)) out 0 out count
   stays e = puts_there listed_inside (l.listed ∙ sym e)
-
-  pub not_wanted : on_set t c ≡ false → Puts (found_below n t (c + 1)) out 0 out count
-  not_wanted e =
-      stays (found_more n t c ∙ ap (λ (b : Bool). cond (b && implicant n t (vicinity n t c)) (inserted (vicinity n t c) (found_below n t c)) (found_below n t c)) e)
 
   module _ (w : on_set t c ≡ true) (q : ℕ) (is : q ≡ vicinity n t c) where
     -- by whether the vicinity is an implicant
@@ -120,14 +129,17 @@ module _ (n : ℕ) (t out : List ℕ) (c count : ℕ) (l : FoundSoFar n t out c 
         ∙ ap (λ (b : Bool). cond (b && implicant n t (vicinity n t c)) (inserted (vicinity n t c) (found_below n t c)) (found_below n t c)) w
         ∙ sym (ap₂ (λ (p : ℕ) (xs : List ℕ). cond (implicant n t (vicinity n t c)) (inserted p xs) xs) is l.listed)
 
-    pub listed_already : PlaceOf q (take count out) There → Puts (found_below n t (c + 1)) out 0 out count
-    listed_already h = stays (wanted_more ∙ either (implicant n t (vicinity n t c)) ∙ l.listed)
+    pub listed_already : (at : ℕ) → IsBinarySearchResult (λ y. nat_cmp y q) (take count out) (Ok at) → Puts (found_below n t (c + 1)) out 0 out count
+    listed_already at h = stays (wanted_more ∙ either (implicant n t (vicinity n t c)) ∙ l.listed)
       where
         either : (b : Bool) → cond b (inserted q (take count out)) (take count out) ≡ take count out
-        either true = h
+        either true = found_there q (take count out) rises at h
         either false = refl
 
-    module _ (at : ℕ) (p : PlaceOf q (take count out) (Before at)) where
+    module _ (at : ℕ) (h : IsBinarySearchResult (λ y. nat_cmp y q) (take count out) (Err at)) where
+      p : (at ≤ length (take count out)) × (inserted q (take count out) ≡ inserted_at at q (take count out))
+      p = found_before q (take count out) rises at h
+
       pub before_inside : at ≤ count
       before_inside = omega (arith, length-take-le count out listed_inside, p.0)
 
@@ -136,20 +148,31 @@ module _ (n : ℕ) (t out : List ℕ) (c count : ℕ) (l : FoundSoFar n t out c 
           let e : inserted (vicinity n t c) (found_below n t c) ≡ inserted_at at q (take count out) = ap₂ inserted (sym is) (sym l.listed) ∙ p.1 in
           omega (arith, ap length e, inserted_most n t c, at_length q at (take count out) p.0, length-take-le count out listed_inside, l.room)
 
-      pub listed_before : (bits r : ℕ) (new : List ℕ) → bits ≡ kept_bits n t c
-          → Puts (cond (some (length t) (barred_match t c bits)) (take count out) (inserted_at at q (take count out))) out 0 new r
-          → Puts (found_below n t (c + 1)) out 0 new r
-      listed_before bits r new k h = puts_same (sym (wanted_more ∙ chosen)) h
-        where
-          matched : Bool
-          matched = some (length t) (barred_match t c bits)
+      is_implicant : (bits : ℕ) → bits ≡ kept_bits n t c → implicant n t (vicinity n t c) ≡ not (some (length t) (barred_match t c bits))
+      is_implicant bits k = implicant_by_bits n t c ∙ sym (ap₂ (λ (m x : ℕ). not (some m (barred_match t c x))) cells k)
 
-          is_implicant : implicant n t (vicinity n t c) ≡ not matched
-          is_implicant = implicant_by_bits n t c ∙ sym (ap₂ (λ (m x : ℕ). not (some m (barred_match t c x))) l.code.cells k)
+      -- it is no implicant, or it is and is put in
+      pub barred_matched : (bits : ℕ) → bits ≡ kept_bits n t c → some (length t) (barred_match t c bits) ≡ true → Puts (found_below n t (c + 1)) out 0 out count
+      barred_matched bits k b =
+          stays (wanted_more ∙ ap (λ (b : Bool). cond b (inserted q (take count out)) (take count out)) (is_implicant bits k ∙ ap not b) ∙ l.listed)
 
-          either : (b : Bool) → cond (not b) (inserted q (take count out)) (take count out) ≡ cond b (take count out) (inserted_at at q (take count out))
-          either true = refl
-          either false = p.1
+      pub listed_before : (bits r : ℕ) (new : List ℕ) → bits ≡ kept_bits n t c → some (length t) (barred_match t c bits) ≡ false
+          → Puts (inserted_at at q (take count out)) out 0 new r → Puts (found_below n t (c + 1)) out 0 new r
+      listed_before bits r new k b g =
+          puts_same (sym (wanted_more ∙ ap (λ (b : Bool). cond b (inserted q (take count out)) (take count out)) (is_implicant bits k ∙ ap not b) ∙ p.1)) g
 
-          chosen : cond (implicant n t (vicinity n t c)) (inserted q (take count out)) (take count out) ≡ cond matched (take count out) (inserted_at at q (take count out))
-          chosen = ap (λ (b : Bool). cond b (inserted q (take count out)) (take count out)) is_implicant ∙ either matched
+-- ---- the codes before c, and code c
+
+module _ (n : ℕ) (t old : List ℕ) (room : 3 ^ n ≤ length old) (c count : ℕ) (out : List ℕ) (p : Puts (found_below n t c) old 0 out count) where
+  pub so_far : FoundSoFar n t out c count
+  so_far = record {
+    room = omega (arith, puts_long p);
+    counts = front_count p;
+    listed = front_lent p (le_trans (found_most n t c) room);
+  }
+
+  pub with_wanted : {new : List ℕ} {r : ℕ} → Puts (found_below n t (c + 1)) out 0 new r → Puts (found_below n t (c + 1)) old 0 new r
+  with_wanted q = puts_over (found_grows n t c) (le_trans (found_most n t (c + 1)) room) p q
+
+  pub without_it : on_set t c ≡ false → Puts (found_below n t (c + 1)) old 0 out count
+  without_it e = puts_same (sym (found_same n t c e)) p

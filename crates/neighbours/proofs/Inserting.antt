@@ -1,25 +1,29 @@
 -- A number put into an ascending list: where it belongs, how the numbers behind it are moved one place on, and that the numbers below a bound that pass, with
 -- one more, are their list with that number put in. Assumes nothing.
-use mathlib.Core.Path.{◌≡◌, refl, sym, ap, ap₂, ◌∙◌, subst, subst⁻¹}
+use mathlib.Core.Path.{◌≡◌, refl, sym, ap, ap₂, ◌∙◌}
 use mathlib.Core.Logic.{⊎_elim}
 use mathlib.Core.Bool.{Bool, true, false, cond, ◌||◌}
-use mathlib.Core.List.{List, [], ◌∷◌, ◌++◌, append-nil}
+use mathlib.Core.List.{List, [], ◌∷◌, ◌++◌, append-nil, append_assoc}
 use Prim.Native.Nat.{ℕ, zero, suc, ◌+◌, ◌-◌, ◌<◌, ◌≤◌}
 use native.Mathlib.Nat.{not-suc-le-zero, le_of_suc-le-suc, eq-or-lt_of_le}
-use native.Mathlib.Numerals.{add-one}
 use native.Mathlib.Omega.{arith}
 use lib.Dec.{eqb, ltb, eqb_refl}
 use lib.ListN.{length, length-append, length-drop, set, take, drop, get_or}
-use lib.Seq.{length-take-le, take_all, take-take, get_or-take, get_or-drop}
+use lib.Seq.{length-take-le, take-take}
 use borrow.Author.Tests.{lt-ltb, le-ltb, eq-eqb, ne_eqb}
 use Rattle.numbers.specs.Below.{those}
 use Rattle.numbers.specs.Lent.{Puts}
 use Rattle.numbers.proofs.Bools.{is_true}
 use Rattle.numbers.proofs.Below.{those_same, those_at}
-use Rattle.numbers.proofs.Fronts.{take_more}
-use Rattle.numbers.proofs.Lent.{sets_behind, puts_none, puts_append, puts_one, puts_same, puts_with_front}
-use Rattle.neighbours.specs.declared.ascending.Place.TheVariants.{There, Before}
-use Rattle.neighbours.specs.Steps.{inserted, inserted_at, PlaceOf}
+use Rattle.numbers.proofs.Lent.{sets_front}
+use Rattle.std.proofs.Common.{Ok, Err}
+use Rattle.std.proofs.lemmas.List.Sorted.{searched}
+use Rattle.std.proofs.lemmas.List.{set-append_left, take_more_set, drop-take}
+use Rattle.std.proofs.Math.Seq.{take-set-lt}
+use Rattle.std.specs.List.{copy_within}
+use Rattle.std.specs.List.Sorted.{IsBinarySearchResult}
+use Rattle.std.specs.Ordering.{nat_cmp}
+use Rattle.neighbours.specs.Steps.{inserted, inserted_at}
 
 -- ---- where a number belongs
 
@@ -62,85 +66,56 @@ module _ (q : ℕ) where
 pub at_length : (q at : ℕ) (xs : List ℕ) → at ≤ length xs → length (inserted_at at q xs) ≡ length xs + 1
 at_length q at xs h = omega (arith, length-append (take at xs) (q ∷ drop at xs), length-take-le at xs h, length-drop at xs)
 
--- among the first places of a lent list
-module _ (q : ℕ) (list : List ℕ) (count : ℕ) (l : count ≤ length list) (at : ℕ) (f : (j : ℕ) → j < at → get_or list j 0 < q) where
-  long : length (take count list) ≡ count
-  long = length-take-le count list l
+-- a list whose numbers from place `at` on are copied one place on, and then q at that place
+module _ (q at count : ℕ) (old : List ℕ) (a : at ≤ count) (b : count < length old) where
+  abbrev moved : List ℕ
+  moved = take (count - at) (drop at old)
 
-  same_place : (j : ℕ) → j < count → get_or (take count list) j 0 ≡ get_or list j 0
-  same_place j h = get_or-take count list j 0 h
+  abbrev rest : List ℕ
+  rest = drop (at + 1 + (count - at)) old
 
-  pub place_there : at < count → get_or list at 0 ≡ q → PlaceOf q (take count list) There
-  place_there h e =
-      inserted_there q (take count list) at (omega (arith, long)) (λ j g. omega (arith, same_place j (omega arith), f j g)) (same_place at h ∙ e)
+  stored : set (take (at + 1) old) at q ≡ take at old ++ (q ∷ [])
+  stored = sym (take-set-lt (at + 1) old at q (omega arith)) ∙ take_more_set old at q (omega arith)
 
-  pub place_before : at ≤ count → (at < count → q < get_or list at 0) → PlaceOf q (take count list) (Before at)
-  place_before h g = (
-    omega (arith, long),
-    inserted-before q (take count list) at (omega (arith, long)) (λ j m. omega (arith, same_place j (omega arith), f j m))
-        (λ m. let k : at < count = omega (arith, long) in omega (arith, same_place at k, g k)),
-  )
+  placed : set (copy_within old at count (at + 1)) at q ≡ ((take at old ++ (q ∷ [])) ++ moved) ++ rest
+  placed =
+      let l : at < length (take (at + 1) old) = omega (arith, length-take-le (at + 1) old (omega arith)) in
+      let m : at < length (take (at + 1) old ++ moved) = omega (arith, length-append (take (at + 1) old) moved) in
+      set-append_left (take (at + 1) old ++ moved) rest at q m
+      ∙ ap (λ (r : List ℕ). r ++ rest) (set-append_left (take (at + 1) old) moved at q l ∙ ap (λ (r : List ℕ). r ++ moved) stored)
 
--- ---- moving the numbers behind a place one place on
+  listed : inserted_at at q (take count old) ≡ (take at old ++ (q ∷ [])) ++ moved
+  listed =
+      let e : at + (count - at) ≡ count = omega arith in
+      ap₂ (λ (x y : List ℕ). x ++ (q ∷ y)) (take-take at count old a) (sym (ap (λ (k : ℕ). drop at (take k old)) e) ∙ drop-take at (count - at) old)
+      ∙ sym (append_assoc (take at old) (q ∷ []) moved)
 
-module _ (q at : ℕ) (list : List ℕ) (count : ℕ) (a : at ≤ count) (b : count < length list) where
-  -- what goes from the place on
-  abbrev behind : List ℕ
-  behind = q ∷ drop at (take count list)
-
-  -- the places before i are written, and `carried` is what place i gets
-  pub record Moved (new : List ℕ) (carried i : ℕ) : Type 0 where
-    pub from : at ≤ i
-    pub to : i ≤ count
-    pub puts : Puts (take (i - at) behind) list at new i
-    pub next : carried ≡ get_or behind (i - at) 0
-
-  behind_length : length behind ≡ count - at + 1
-  behind_length = omega (arith, length-drop at (take count list), length-take-le count list (omega arith))
-
-  pub moved_none : Moved list q at
-  moved_none =
-      let e : at - at ≡ 0 = omega arith in record {
-        from = omega arith;
-        to = a;
-        puts = puts_same (sym (ap (λ (k : ℕ). take k behind) e)) (puts_none list at);
-        next = sym (ap (λ (k : ℕ). get_or behind k 0) e);
+  pub put_in : Puts (inserted_at at q (take count old)) old 0 (set (copy_within old at count (at + 1)) at q) (count + 1)
+  put_in =
+      let long : length (take count old) ≡ count = length-take-le count old (omega arith) in
+      let more : length (inserted_at at q (take count old)) ≡ count + 1 = omega (arith, at_length q at (take count old) (omega arith), long) in
+      let past : at + 1 + (count - at) ≡ length (inserted_at at q (take count old)) = omega arith in
+      record {
+        behind = omega arith;
+        places =
+            placed ∙ ap₂ (λ (x : List ℕ) (k : ℕ). x ++ drop k old) (sym listed) past
+            ∙ sym (sets_front (inserted_at at q (take count old)) old (omega arith));
       }
 
-  module _ {new : List ℕ} {carried i : ℕ} (m : Moved new carried i) where
-    -- one place more is written
-    placed : Puts (take (i - at + 1) behind) list at (set new i carried) (i + 1)
-    placed =
-        puts_same
-        (ap (λ (x : ℕ). take (i - at) behind ++ x ∷ []) m.next ∙ sym (take_more behind (i - at) (omega (arith, behind_length, m.from, m.to))))
-        (puts_append m.puts (puts_one new i carried))
+-- where a search finds it
+module _ (q : ℕ) (xs : List ℕ) (up : (i j : ℕ) → i < j → j < length xs → get_or xs i 0 < get_or xs j 0) where
+  rises : (i j : ℕ) → i ≤ j → j < length xs → get_or xs i 0 ≤ get_or xs j 0
+  rises i j a l = ⊎_elim (λ e. omega (arith, ap (λ (k : ℕ). get_or xs k 0) e)) (λ h. omega (arith, up i j h l)) (eq-or-lt_of_le a)
 
-    -- what was at place i
-    was : i < count → get_or new i 0 ≡ get_or behind (i - at + 1) 0
-    was l =
-        let e : at + (i - at) ≡ i = omega (arith, m.from) in
-        let whole : at + length (take (i - at) behind) ≡ i = sym m.puts.behind in
-        ap (λ (r : List ℕ). get_or r i 0) m.puts.places ∙ sets_behind (take (i - at) behind) list at i (omega arith)
-        ∙ sym (ap (λ (k : ℕ). get_or behind k 0) (add-one (i - at)) ∙ get_or-drop at (take count list) (i - at) 0
-        ∙ ap (λ (k : ℕ). get_or (take count list) k 0) e ∙ get_or-take count list i 0 l)
+  pub found_there : (at : ℕ) → IsBinarySearchResult (λ y. nat_cmp y q) xs (Ok at) → inserted q xs ≡ xs
+  found_there at h =
+      let s = searched xs q (Ok at) h rises in
+      inserted_there q xs at s.0 (λ j l. omega (arith, up j at l s.0, s.1)) s.1
 
-    pub moved_more : i < count → Moved (set new i carried) (get_or new i 0) (i + 1)
-    moved_more l =
-        let e : i - at + 1 ≡ i + 1 - at = omega (arith, m.from) in record {
-          from = omega (arith, m.from);
-          to = omega arith;
-          puts = puts_same (ap (λ (k : ℕ). take k behind) e) placed;
-          next = was l ∙ ap (λ (k : ℕ). get_or behind k 0) e;
-        }
-
-    pub moved_all : {r : ℕ} → count ≤ i → r ≡ count + 1 → Puts (inserted_at at q (take count list)) list 0 (set new count carried) r
-    moved_all {r} l k =
-        let e : i ≡ count = omega (arith, m.to) in
-        let all : length behind ≤ i - at + 1 = omega (arith, behind_length) in
-        let whole = puts_same (take_all (i - at + 1) behind all) placed in
-        puts_same (ap (λ (r : List ℕ). r ++ behind) (sym (take-take at count list a)))
-        (puts_with_front (omega arith)
-        (subst⁻¹ (λ (j : ℕ). Puts behind list at (set new count carried) j) k (subst (λ (j : ℕ). Puts behind list at (set new j carried) (j + 1)) e whole)))
+  pub found_before : (at : ℕ) → IsBinarySearchResult (λ y. nat_cmp y q) xs (Err at) → (at ≤ length xs) × (inserted q xs ≡ inserted_at at q xs)
+  found_before at h =
+      let s = searched xs q (Err at) h rises in
+      (s.0, inserted-before q xs at s.0 s.1 (λ l. s.2 at (omega arith) l))
 
 -- ---- one number more that passes
 

@@ -1,7 +1,6 @@
 -- The vicinity of a code read from its first bit on: after the bits from k up, the kept bits are shifted by k, and the cube is that of the first n - k digits.
 -- Assumes nothing.
 use mathlib.Core.Path.{◌≡◌, sym, ap, ap₂, ◌∙◌}
-use mathlib.Core.Bool.{Bool, true, false}
 use mathlib.Core.List.{List}
 use Prim.Native.Nat.{ℕ, suc, ◌+◌, ◌*◌, ◌-◌, ◌^◌, ◌/◌, ◌%◌, ◌<◌, ◌≤◌}
 use native.Mathlib.Nat.{div-one, div-eq_of_lt, div-le_self}
@@ -16,21 +15,6 @@ use Rattle.cube.proofs.Rows.{cube_lt}
 use Rattle.neighbours.specs.declared.vicinities.Kept.{Kept}
 use Rattle.neighbours.specs.Vicinity.{neighbour, kept_bits, vicinity}
 use Rattle.neighbours.specs.Steps.{WithBit, KeptOf}
-
--- ---- one bit
-
-module _ (t : List ℕ) (c k : ℕ) (v r : Kept) where
-  pub bit_not_kept : off_set t (neighbour k c) ≡ false → r.bits ≡ 2 * v.bits → r.cube ≡ 3 * v.cube + 2 → WithBit t c k v r
-  bit_not_kept e a b = record {
-    bits = omega (arith, ap flag e);
-    cube = omega (arith, ap (λ (x : Bool). digit_of (c / 2 ^ k % 2) (flag x)) e);
-  }
-
-  pub bit_kept : off_set t (neighbour k c) ≡ true → r.bits ≡ 2 * v.bits + 1 → r.cube ≡ 3 * v.cube + c / 2 ^ k % 2 → WithBit t c k v r
-  bit_kept e a b = record {
-    bits = omega (arith, ap flag e);
-    cube = omega (arith, ap (λ (x : Bool). digit_of (c / 2 ^ k % 2) (flag x)) e);
-  }
 
 -- ---- the bits from k up
 

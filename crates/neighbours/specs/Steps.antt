@@ -1,20 +1,11 @@
 -- What the steps of the call hold: the bits and digits read so far, the cubes that are found at the first codes, and a number that is put into an ascending
 -- list. Assumes nothing.
-use Rattle.std.specs.Prelude.{◌≡◌, ℕ, ◌+◌, ◌*◌, ◌^◌, ◌/◌, ◌%◌, ◌<◌, ◌≤◌, Bool, cond, ◌&&◌, List, [], ◌∷◌, ◌++◌, eqb, ltb, length, take, drop}
+use Rattle.std.specs.Prelude.{◌≡◌, ℕ, ◌+◌, ◌*◌, ◌^◌, ◌/◌, ◌%◌, ◌≤◌, Bool, cond, ◌&&◌, List, [], ◌∷◌, ◌++◌, eqb, ltb, length, take, drop}
 use Rattle.std.specs.Int.Bits.{bit_and}
 use Rattle.numbers.specs.Below.{flag, some, those}
 use Rattle.cube.specs.Words.{on_set, off_set, digit_of, implicant}
-use Rattle.cube.specs.Calls.{widest}
 use Rattle.neighbours.specs.Vicinity.{neighbour, kept_bits, vicinity}
 use Rattle.neighbours.specs.declared.vicinities.Kept.{Kept}
-use Rattle.neighbours.specs.declared.ascending.Place.{Place}
-use Rattle.neighbours.specs.declared.ascending.Place.TheVariants.{There, Before}
-
--- a code of a table of n variables
-pub record CodeOf (n : ℕ) (t : List ℕ) (c : ℕ) : Type 0 where
-  pub width : n ≤ widest
-  pub cells : length t ≡ 2 ^ n
-  pub code : c < 2 ^ n
 
 -- one bit more, and one digit more
 pub record WithBit (t : List ℕ) (c k : ℕ) (kept r : Kept) : Type 0 where
@@ -51,14 +42,8 @@ inserted q (x ∷ xs) = cond (ltb x q) (x ∷ inserted q xs) (cond (eqb x q) (x 
 abbrev pub inserted_at : ℕ → ℕ → List ℕ → List ℕ
 inserted_at at q xs = take at xs ++ (q ∷ drop at xs)
 
--- what the place of a number tells
-abbrev pub PlaceOf : ℕ → List ℕ → Place → Type 0
-PlaceOf q xs There = inserted q xs ≡ xs
-PlaceOf q xs (Before at) = (at ≤ length xs) × (inserted q xs ≡ inserted_at at q xs)
-
 -- the first places list what is found at the codes below c, and there is room for all cubes
 pub record FoundSoFar (n : ℕ) (t out : List ℕ) (c count : ℕ) : Type 0 where
-  pub code : CodeOf n t c
   pub room : 3 ^ n ≤ length out
   pub counts : count ≡ length (found_below n t c)
   pub listed : take count out ≡ found_below n t c

@@ -1,10 +1,10 @@
 -- What is proved over any width and table: neighbours and vicinities by positions, document 02's sentences about essential primes, that 002's Theorem 4 does not
 -- hold as it is printed, and that two calls that keep the promise of Essentials write the same. Proved, in this order, by `Flipping`, `Vicinity` and `Theorems`
 -- of `proofs/`. Assumes nothing.
-use Rattle.std.specs.Prelude.{◌≡◌, ◌↔◌, List, [], ◌∷◌, ℕ, ◌-◌, ◌^◌, ◌/◌, ◌%◌, ◌<◌, T, length}
+use Rattle.std.specs.Prelude.{◌≡◌, ◌↔◌, Result, List, [], ◌∷◌, ℕ, ◌-◌, ◌^◌, ◌/◌, ◌%◌, ◌<◌, T, length}
 use Rattle.cube.specs.Words.{on_set, off_set, digit, cube_matches, implicant, essential, essentials_of}
 use Rattle.cube.specs.Calls.{Listed}
-use Rattle.cube.specs.declared.Counted.{Counted}
+use Rattle.cube.specs.declared.Refusal.{Refusal}
 use Rattle.tables.specs.Listing.{primes_refuses}
 use Rattle.neighbours.specs.Vicinity.{neighbour, vicinity}
 
@@ -60,12 +60,12 @@ pub record NotAsPrinted : Type 0 where
 -- ---- both calls
 
 -- what two calls leave and answer is the same
-pub record SameReport (new other : List ℕ) (r s : Counted) : Type 0 where
+pub record SameReport (new other : List ℕ) (r s : Result ℕ Refusal) : Type 0 where
   pub places : new ≡ other
   pub answers : r ≡ s
 
 -- "Both must write the same places and counts for every table, refused ones included.": any two calls that keep the promise of Essentials do
 abbrev pub WriteTheSame : ℕ → List ℕ → List ℕ → Type 0
 WriteTheSame n t old =
-    (new other : List ℕ) (r s : Counted) → Listed (primes_refuses n t (length old)) (essentials_of n t) old new r
+    (new other : List ℕ) (r s : Result ℕ Refusal) → Listed (primes_refuses n t (length old)) (essentials_of n t) old new r
     → Listed (primes_refuses n t (length old)) (essentials_of n t) old other s → SameReport new other r s

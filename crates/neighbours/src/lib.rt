@@ -3,90 +3,66 @@
 // grows with the width: beside the lent places the call needs a few words.
 //
 //     let mut places = [0u16; 9];
-//     neighbours::essentials_by_neighbours(2, &[1, 0, 0, 2], &mut places)     // count 1: cube 0 (00); both neighbours of 0 are barred
-#![tactic(auto)]
+//     neighbours::essentials_by_neighbours(2, &[1, 0, 0, 2], &mut places)     // Ok(1): cube 0 (00); both neighbours of 0 are barred
+#![tactic(auto, using(cube::proofs::Calls::refusals))]
 
-mod ascending;
 mod vicinities;
 
-ghost use Rattle.std.specs.Prelude.{◌≡◌, true, cond, ◌+◌, ◌<◌, ◌≤◌, ◌^◌, length, take};
-ghost use Rattle.numbers.specs.Below.{some};
+ghost use Rattle.std.specs.Prelude.{◌≡◌, true, ◌+◌, ◌<◌, ◌≤◌, ◌^◌, length, take};
 ghost use Rattle.numbers.specs.Lent.{Puts};
 ghost use Rattle.cube.specs.Words.{on_set, essentials_of};
-ghost use Rattle.cube.specs.Calls.{widest, Listed};
+ghost use Rattle.cube.specs.Calls.{Listed};
 ghost use Rattle.tables.specs.Listing.{primes_refuses};
-ghost use Rattle.neighbours.specs.Steps.{barred_match, found_below, inserted_at, FoundSoFar};
+ghost use Rattle.neighbours.specs.Steps.{found_below, inserted_at, FoundSoFar};
 
-use ascending::Place;
-use cube::Counted;
-use vicinities::Kept;
+use cube::Refusal;
+use tables::Table;
 
-// Puts the cube of what code c keeps before place `at` of the listed ones, unless it matches a barred code, and returns how many
-// are listed.
-fn add_implicant(
-    table: &[u8],
-    c: usize,
-    kept: Kept,
-    at: usize,
-    out: &mut [u16],
-    count: usize,
-) -> usize
-    requires { (kept.cube < 3 ^ widest) × (at ≤ count) × (count < length out.old) }
-    ensures { Puts (cond (some (length table.now) (barred_match table.now c kept.bits))
-        (take count out.old) (inserted_at at kept.cube (take count out.old)))
-        out.old 0 out.new result }
+// Puts q before place `at` of the first places, each of those behind it one place on, and returns how many there are then.
+fn insert_at(q: u16, at: usize, list: &mut [u16], count: usize) -> usize
+    requires { (at ≤ count) × (count < length list.old) }
+    ensures { Puts (inserted_at at q (take count list.old)) list.old 0 list.new result }
 {
-    if vicinities::matches_barred(table, c, kept.bits) {
-        return count;
-    }
-    ascending::insert_at(kept.cube as u16, at, out, count)
+    list.copy_within(at..count, at + 1);
+    list[at] = q;
+    count + 1
 }
 
 // Lists the vicinity of a wanted code, unless it is listed already or matches a barred code, and returns how many are listed.
-fn add_vicinity(n: usize, table: &[u8], c: usize, out: &mut [u16], count: usize) -> usize
-    requires { FoundSoFar n table.now out.old c count × (on_set table.now c ≡ true) }
-    ensures { Puts (found_below n table.now (c + 1)) out.old 0 out.new result }
+fn add_vicinity(table: Table<'_>, c: usize, out: &mut [u16], count: usize) -> usize
+    requires found { FoundSoFar table.width table.cells.now out.old c count }
+    requires code { c < length table.cells.now }
+    requires wanted { on_set table.cells.now c ≡ true }
+    ensures { Puts (found_below table.entry.width table.entry.cells.now (c + 1)) out.old 0 out.new result }
 {
-    let kept = vicinities::kept_bits(n, table, c);
-    match ascending::place_of(kept.cube as u16, out, count) {
-        Place::There => count,
-        Place::Before(at) => add_implicant(table, c, kept, at, out, count),
+    let kept = vicinities::kept_bits(table, c);
+    let cube = kept.cube as u16;
+    match out[..count].binary_search(&cube) {
+        Ok(_) => count,
+        Err(_) if vicinities::matches_barred(table, c, kept.bits) => count,
+        Err(at) => insert_at(cube, at, out, count),
     }
 }
 
-// Lists what is found at code c, nothing if it is not wanted, and returns how many are listed.
-fn add_code(n: usize, table: &[u8], c: usize, out: &mut [u16], count: usize) -> usize
-    requires { FoundSoFar n table.now out.old c count }
-    ensures { Puts (found_below n table.now (c + 1)) out.old 0 out.new result }
-{
-    if table[c] != 1 {
-        return count;
-    }
-    add_vicinity(n, table, c, out, count)
-}
-
-// Lists the essential primes of a table of n variables, ascending, and returns their number.
-fn list_essentials(n: usize, table: &[u8], out: &mut [u16]) -> usize
-    requires { (n ≤ widest) × (length table.now ≡ 2 ^ n) × (3 ^ n ≤ length out.old) }
-    ensures { Puts (essentials_of n table.now) out.old 0 out.new result }
+// Lists the essential primes of a table, ascending, and returns their number.
+fn list_essentials(table: Table<'_>, out: &mut [u16]) -> usize
+    requires { 3 ^ table.width ≤ length out.old }
+    ensures { Puts (essentials_of table.entry.width table.entry.cells.now) out.old 0 out.new result }
 {
     let mut count = 0;
-    let mut c = 0;
-    while c < table.len() {
-        count = add_code(n, table, c, out, count);
-        c += 1;
+    for (c, cell) in table.cells.iter().enumerate() {
+        if *cell == 1 {
+            count = add_vicinity(table, c, out, count);
+        }
     }
     count
 }
 
-// The essential primes of a table into the first places, ascending by cube number: how many there are, or the number of the refusal.
-pub fn essentials_by_neighbours(n: usize, table: &[u8], out: &mut [u16]) -> Counted
+// The essential primes of a table into the first places, ascending by cube number: how many there are, or why it is refused.
+pub fn essentials_by_neighbours(n: usize, table: &[u8], out: &mut [u16]) -> Result<usize, Refusal>
     ensures { Listed (primes_refuses n table.now (length out.old)) (essentials_of n table.now)
         out.old out.new result }
 {
-    let k = tables::listing_refusal(n, table, out.len());
-    if k != 0 {
-        return Counted::Refused(k);
-    }
-    Counted::Count(list_essentials(n, table, out))
+    let table = Table::with_places(n, table, out.len())?;
+    Ok(list_essentials(table, out))
 }

@@ -2,23 +2,26 @@
 ghost use Rattle.std.specs.Prelude.{◌≡◌, ◌<◌, ◌^◌, length};
 ghost use Rattle.numbers.specs.Below.{some};
 ghost use Rattle.cube.specs.Calls.{widest};
-ghost use Rattle.neighbours.specs.Vicinity.{neighbour};
-ghost use Rattle.neighbours.specs.Steps.{CodeOf, WithBit, KeptOf, barred_match};
+ghost use Rattle.neighbours.specs.Steps.{WithBit, KeptOf, barred_match};
+
+use tables::Table;
 
 // The bits that are kept, a one at each, and the number of the cube that tests them.
-#[derive(Drop)]
+#[derive(Clone, Copy)]
 pub struct Kept {
     pub bits: usize,
     pub cube: usize,
 }
 
 // What is kept so far, with bit k: it is kept if flipping it gives a barred code.
-fn with_bit(table: &[u8], c: usize, k: usize, kept: Kept) -> Kept
-    requires { (k < widest) × (neighbour k c < length table.now) × (kept.bits < 2 ^ widest) × (kept.cube < 3 ^ widest) }
-    ensures { WithBit table.now c k kept result }
+fn with_bit(table: Table<'_>, c: usize, k: usize, kept: Kept) -> Kept
+    requires bit { k < table.width }
+    requires code { c < length table.cells.now }
+    requires small { (kept.bits < 2 ^ widest) × (kept.cube < 3 ^ widest) }
+    ensures { WithBit table.entry.cells.now c k kept result }
 {
     let weight = spelling::codes(k);
-    if table[c ^ weight] != 0 {
+    if table.cells[c ^ weight] != 0 {
         return Kept {
             bits: 2 * kept.bits,
             cube: 3 * kept.cube + 2,
@@ -31,40 +34,24 @@ fn with_bit(table: &[u8], c: usize, k: usize, kept: Kept) -> Kept
 }
 
 // What code c keeps, from the first bit on.
-pub fn kept_bits(n: usize, table: &[u8], c: usize) -> Kept
-    requires { CodeOf n table.now c }
-    ensures { KeptOf n table.now c result }
+pub fn kept_bits(table: Table<'_>, c: usize) -> Kept
+    requires { c < length table.cells.now }
+    ensures { KeptOf table.entry.width table.entry.cells.now c result }
 {
     let mut kept = Kept { bits: 0, cube: 0 };
-    let mut k = n;
-    while 0 < k {
-        k -= 1;
+    for k in (0..table.width).rev() {
         kept = with_bit(table, c, k, kept);
     }
     kept
 }
 
-// Whether code x is barred and agrees with code c in these bits.
-fn is_barred_match(table: &[u8], c: usize, bits: usize, x: usize) -> bool
-    requires { x < length table.now }
-    ensures { result ≡ barred_match table.now c bits x }
-{
-    if table[x] != 0 {
-        return false;
-    }
-    x & bits == c & bits
-}
-
 // Whether some barred code agrees with code c in these bits.
-pub fn matches_barred(table: &[u8], c: usize, bits: usize) -> bool
-    ensures { result ≡ some (length table.now) (barred_match table.now c bits) }
+pub fn matches_barred(table: Table<'_>, c: usize, bits: usize) -> bool
+    ensures { result ≡ some (length table.entry.cells.now) (barred_match table.entry.cells.now c bits) }
 {
-    let mut x = 0;
-    while x < table.len() {
-        if is_barred_match(table, c, bits, x) {
-            return true;
-        }
-        x += 1;
-    }
-    false
+    table
+        .cells
+        .iter()
+        .enumerate()
+        .any(|(x, cell)| *cell == 0 && x & bits == c & bits)
 }

@@ -7,4 +7,6 @@ pub mod Bits
 pub mod Kept
 pub mod Fronts
 pub mod Lent
+pub mod Loops
+pub mod Closures
 pub mod Examples

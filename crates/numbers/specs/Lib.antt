@@ -1,4 +1,6 @@
--- The definitions: the numbers below a bound and lists of numbers, with one example of each; and a list that is written into lent places.
+-- The definitions: the numbers below a bound and lists of numbers, with one example of each; a list that is written into lent places; and an iterator that
+-- gives numbers, ascending.
 pub mod Below
 pub mod Examples
 pub mod Lent
+pub mod Ascending

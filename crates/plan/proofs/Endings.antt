@@ -1,77 +1,53 @@
 -- How Plan ends: it refuses and leaves both arrays as they were, or writes the chosen list. Assumes nothing.
-use mathlib.Core.Path.{◌≡◌, refl, sym, ap, ap₂, ◌∙◌, subst⁻¹}
+use mathlib.Core.Path.{◌≡◌, refl, sym, ap₂, ◌∙◌, subst⁻¹}
 use mathlib.Core.List.{List, [], ◌∷◌, map, map-map}
-use Prim.Native.Nat.{ℕ, zero, suc, ◌-◌, ◌^◌, ◌<◌, ◌≤◌}
+use Prim.Native.Nat.{ℕ, suc, ◌-◌, ◌^◌, ◌≤◌}
 use native.Mathlib.Omega.{arith}
 use lib.Dec.{T}
-use lib.ListN.{length, length-map, take, get_or}
-use lib.Seq.{get_or-take}
-use lib.Seq.{length-take-le}
-use Rattle.cube.specs.Words.{Cover, row_of, number_of, value_of, care_of}
-use Rattle.cube.specs.Calls.{gives, answered, written}
-use Rattle.cube.proofs.Rows.{number_of_row}
-use Rattle.numbers.specs.Lent.{Puts}
-use Rattle.numbers.proofs.Lent.{front_count, front_places}
+use lib.ListN.{length, length-map}
+use Rattle.std.specs.Prelude.{Ok, Err}
+use Rattle.cube.specs.Words.{row_of, number_of, value_of, care_of}
+use Rattle.cube.specs.Calls.{refusal_number, answered, written}
+use Rattle.cube.specs.declared.Refusal.{Refusal}
+use Rattle.cube.proofs.Calls.{refusal_from, gives_answered, refuses_answered, listed_refused}
 use Rattle.cube.proofs.Minimum.{minimum_rows}
-use Rattle.plan.specs.Plan.{plan_places, plan_refuses, totals_of, ascending, Plans}
-use Rattle.plan.specs.Steps.{rows_of_cubes, Chosen, SpelledInto}
-use Rattle.plan.specs.declared.Planned.TheVariants.{Rows, Refused}
-use Rattle.plan.proofs.Refusals.{Plannable, plannable}
+use Rattle.cube.proofs.Rows.{number_of_row}
+use Rattle.plan.specs.Plan.{plan_refuses, totals_of, ascending, Plans}
+use Rattle.plan.specs.Steps.{rows_of_cubes, Cubes, Chosen}
+
+-- the cubes of some rows are the numbers of these rows
+numbers : (n : ℕ) (qs : List ℕ) → Cubes n qs → map (number_of n) (rows_of_cubes n qs) ≡ qs
+numbers n [] f = refl
+numbers n (q ∷ qs) f = ap₂ (λ (x : ℕ) (xs : List ℕ). x ∷ xs) (number_of_row n q (f 0 (omega arith))) (numbers n qs (λ i l. f (suc i) (omega arith)))
+
+-- a shortest list has at most a row for each pair of codes
+pub cubes_most : (n : ℕ) (t qs : List ℕ) (bits : ℕ) → Chosen n t qs bits → length qs ≤ 2 ^ (n - 1)
+cubes_most n t qs bits chosen = omega (arith, length-map qs (row_of n), minimum_rows n t (rows_of_cubes n qs) chosen.minimum)
 
 module _ (n : ℕ) (t values cares : List ℕ) where
   abbrev refusal : ℕ
   refusal = plan_refuses n t (length values) (length cares)
 
-  pub plan_refused : (k : ℕ) → k ≡ refusal → (k ≡ 0 → ⊥) → Plans n t values cares values cares (Refused k)
-  plan_refused zero e h = absurd (h refl)
-  plan_refused (suc k) e h = record {
+  pub plan_refused : (e : Refusal) → refusal_number e ≡ refusal → Plans n t values cares values cares (Err e)
+  plan_refused e h = record {
     list = [];
-    minimum = λ z. absurd (h (e ∙ z));
-    is_ascending = λ z. absurd (h (e ∙ z));
-    answer = ap (λ (i : ℕ). answered i (totals_of n [])) e;
-    values_are = ap (λ (i : ℕ). written i [] values) e;
-    cares_are = ap (λ (i : ℕ). written i [] cares) e;
+    minimum = λ z. absurd (omega (arith, refusal_from e));
+    is_ascending = λ z. absurd (omega (arith, refusal_from e));
+    answer = refuses_answered e (totals_of n []) h;
+    values_are = (listed_refused {list = []} e h).places;
+    cares_are = (listed_refused {list = []} e h).places;
   }
 
-  module _ (cubes : List ℕ) (count bits : ℕ) (chosen : Chosen n t cubes count bits) where
-    abbrev qs : List ℕ
-    qs = take count cubes
-
-    list : Cover
-    list = rows_of_cubes n qs
-
-    rows_are : length list ≡ count
-    unfolding list
-    rows_are = length-map qs (row_of n) ∙ length-take-le count cubes chosen.within
-
-    pub count_most : count ≤ 2 ^ (n - 1)
-    unfolding list
-    count_most = omega (arith, rows_are, minimum_rows n t list chosen.minimum)
-
-    numbers_from : (qs : List ℕ) → ((i : ℕ) → i < length qs → get_or qs i 0 < 3 ^ n) → map (number_of n) (rows_of_cubes n qs) ≡ qs
-    numbers_from [] f = refl
-    numbers_from (q ∷ qs) f = ap₂ (λ (x : ℕ) (xs : List ℕ). x ∷ xs) (number_of_row n q (f 0 (omega arith))) (numbers_from qs (λ i l. f (suc i) (omega arith)))
-
-    numbers : map (number_of n) (rows_of_cubes n qs) ≡ qs
-    numbers =
-        numbers_from qs (λ i l. let k : i < count = omega (arith, length-take-le count cubes chosen.within) in subst⁻¹ (λ (q : ℕ). q < 3 ^ n) (get_or-take count cubes i 0 k) (chosen.below i k))
-
-    module _ (none : refusal ≡ 0) (values' cares' : List ℕ) (put : SpelledInto n cubes count values cares values' cares') where
-      places : Plannable n t (length values) (length cares)
-      places = plannable n t (length values) (length cares) none
-
-      -- an array afterwards: the list's numbers from the first place on, and after them what was there
-      spelled : (f : ℕ → ℕ) (old new : List ℕ) → plan_places n ≤ length old → Puts (map f qs) old 0 new count → new ≡ written refusal (map f qs) old
-      spelled f old new l p = front_places p (omega (arith, count_most, front_count p)) ∙ ap (λ (i : ℕ). written i (map f qs) old) (sym none)
-
-      pub plan_done : Plans n t values cares values' cares' (Rows count bits)
-      unfolding list
-      plan_done = record {
-        list = list;
-        minimum = λ z. chosen.minimum;
-        is_ascending = λ z. subst⁻¹ (λ (l : List ℕ). T (ascending l)) numbers chosen.is_ascending;
-        answer =
-            ap₂ (λ (r b : ℕ). gives (record { rows = r; bits = b })) (sym rows_are) chosen.counts ∙ ap (λ (i : ℕ). answered i (totals_of n list)) (sym none);
-        values_are = spelled (value_of n) values values' places.enough_values put.values_put ∙ ap (λ (l : List ℕ). written refusal l values) (sym (map-map (λ r. r.value) (row_of n) qs));
-        cares_are = spelled (care_of n) cares cares' places.enough_cares put.cares_put ∙ ap (λ (l : List ℕ). written refusal l cares) (sym (map-map (λ r. r.care) (row_of n) qs));
-      }
+  pub plan_done : (qs : List ℕ) (bits : ℕ) → Chosen n t qs bits → 0 ≡ refusal → (values' cares' : List ℕ)
+      → values' ≡ written 0 (map (value_of n) qs) values → cares' ≡ written 0 (map (care_of n) qs) cares
+      → Plans n t values cares values' cares' (Ok (record { rows = length qs; bits = bits }))
+  plan_done qs bits chosen none values' cares' v w = record {
+    list = rows_of_cubes n qs;
+    minimum = λ z. chosen.minimum;
+    is_ascending = λ z. subst⁻¹ (λ (l : List ℕ). T (ascending l)) (numbers n qs chosen.below) chosen.is_ascending;
+    answer =
+        gives_answered (record { rows = length qs; bits = bits }) none
+        ∙ ap₂ (λ (r b : ℕ). answered refusal (record { rows = r; bits = b })) (sym (length-map qs (row_of n))) chosen.counts;
+    values_are = v ∙ ap₂ (λ (k : ℕ) (l : List ℕ). written k l values) none (sym (map-map (λ r. r.value) (row_of n) qs));
+    cares_are = w ∙ ap₂ (λ (k : ℕ) (l : List ℕ). written k l cares) none (sym (map-map (λ r. r.care) (row_of n) qs));
+  }

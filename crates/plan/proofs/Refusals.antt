@@ -3,30 +3,20 @@
 use mathlib.Core.Path.{◌≡◌, refl, sym, ap₂, ◌∙◌}
 use mathlib.Core.Bool.{Bool, not, ◌||◌}
 use mathlib.Core.List.{List, [], ◌∷◌}
-use Prim.Native.Nat.{ℕ, zero, suc, ◌-◌, ◌^◌, ◌<◌, ◌≤◌}
+use Prim.Native.Nat.{ℕ, zero, suc, ◌-◌, ◌^◌, ◌≤◌}
 use native.Mathlib.Omega.{arith}
 use lib.Dec.{eqb}
 use lib.ListN.{length}
 use Rattle.cube.specs.Calls.{widest, bad_width, bad_cell, short, when, first_of, table_conditions}
-use Rattle.cube.proofs.Calls.{Accepted, accepted, code_pairs_most, last_before, last_holds, last_passes, last_none, first_short, second_short, neither_short, both_long}
+use Rattle.cube.proofs.Calls.{Accepted, accepted, refusals, code_pairs_most, conditions_refuse, none_in_front}
 use Rattle.plan.specs.Plan.{plan_refuses, plan_places}
 
 module _ (n : ℕ) (t : List ℕ) (values cares : ℕ) where
   abbrev is_short : Bool
   is_short = short values (plan_places n) || short cares (plan_places n)
 
-  pub refuses_table : (k : ℕ) → k ≡ first_of (table_conditions n t) → (k ≡ 0 → ⊥) → k ≡ plan_refuses n t values cares
-  refuses_table = last_before (table_conditions n t) tt is_short 3
-
-  module _ (e : first_of (table_conditions n t) ≡ 0) where
-    pub refuses_values : values < plan_places n → 4 ≡ plan_refuses n t values cares
-    refuses_values h = last_holds (table_conditions n t) tt is_short 3 e (first_short values cares (plan_places n) h)
-
-    pub refuses_cares : cares < plan_places n → 4 ≡ plan_refuses n t values cares
-    refuses_cares h = last_holds (table_conditions n t) tt is_short 3 e (second_short values cares (plan_places n) h)
-
-    pub refuses_none : plan_places n ≤ values → plan_places n ≤ cares → 0 ≡ plan_refuses n t values cares
-    refuses_none v w = last_passes (table_conditions n t) tt is_short 3 e (neither_short values cares (plan_places n) v w)
+  pub refuses_none : first_of (table_conditions n t) ≡ 0 → plan_places n ≤ values → plan_places n ≤ cares → 0 ≡ plan_refuses n t values cares
+  refuses_none e v w = grind (arith, refusals)
 
   -- with places for the widest list, Plan refuses what a table is refused for
   pub refuses_as_table : 2 ^ (widest - 1) ≤ values → 2 ^ (widest - 1) ≤ cares → plan_refuses n t values cares ≡ first_of (table_conditions n t)
@@ -34,7 +24,7 @@ module _ (n : ℕ) (t : List ℕ) (values cares : ℕ) where
     where
       go : (k : ℕ) → first_of (table_conditions n t) ≡ k → plan_refuses n t values cares ≡ first_of (table_conditions n t)
       go zero e = let most = code_pairs_most n (accepted n t e).to in sym (refuses_none e (omega (arith, most, v)) (omega (arith, most, w))) ∙ sym e
-      go (suc k) e = sym (refuses_table (suc k) (sym e) (λ z. omega arith)) ∙ sym e
+      go (suc k) e = conditions_refuse (table_conditions n t) (when is_short 4 ∷ []) k e ∙ sym e
 
 -- tables of one length, both with or both without a cell that is none, are refused alike
 pub same_refusal : (n : ℕ) (t u : List ℕ) → length t ≡ length u → bad_cell t ≡ bad_cell u → (values cares : ℕ) → plan_refuses n t values cares ≡ plan_refuses n u values cares
@@ -48,7 +38,8 @@ pub record Plannable (n : ℕ) (t : List ℕ) (values cares : ℕ) : Type 0 wher
   pub enough_cares : plan_places n ≤ cares
 
 pub plannable : (n : ℕ) (t : List ℕ) (values cares : ℕ) → plan_refuses n t values cares ≡ 0 → Plannable n t values cares
-plannable n t values cares e =
-    let none = last_none (table_conditions n t) tt (is_short n t values cares) 3 e in
-    let long = both_long values cares (plan_places n) none.1 in
-    record { table = accepted n t none.0; enough_values = long.0; enough_cares = long.1 }
+plannable n t values cares e = record {
+  table = accepted n t (none_in_front (table_conditions n t) (when (is_short n t values cares) 4 ∷ []) e);
+  enough_values = grind (arith, refusals);
+  enough_cares = grind (arith, refusals);
+}

@@ -1,12 +1,12 @@
 -- Plan: "a list into a value array and a care array, from the first place of each, ascending by cube number; the answer is the number of rows and
 -- the sum of their tested bits. [..] Refuses 1, 2, 3, then 4 when either array is below" 2^(n−1) places: "4 is given only below 2^(n−1) places" (document 02).
 -- And demand 3, as one record. Assumes nothing.
-use Rattle.std.specs.Prelude.{◌≡◌, Bool, true, ◌&&◌, ◌||◌, List, [], ◌∷◌, ◌++◌, map, ℕ, suc, ◌-◌, ◌^◌, T, leb, length}
+use Rattle.std.specs.Prelude.{◌≡◌, Bool, true, ◌&&◌, ◌||◌, List, [], ◌∷◌, ◌++◌, map, ℕ, suc, ◌-◌, ◌^◌, Result, T, leb, length}
 use Rattle.cube.specs.Words.{Cover, cover_literals, number_of}
-use Rattle.cube.specs.Calls.{short, when, first_of, table_conditions, Answer, refuses, gives, answered, written}
+use Rattle.cube.specs.Calls.{short, when, first_of, table_conditions, answered, answer_of, written}
 use Rattle.cube.specs.Minimum.{Minimum}
-use Rattle.plan.specs.declared.Planned.{Planned}
-use Rattle.plan.specs.declared.Planned.TheVariants as planned
+use Rattle.cube.specs.declared.Refusal.{Refusal}
+use Rattle.plan.specs.declared.Totals.{Totals}
 
 -- "only below 2^(n−1) places": the places that each array needs
 abbrev pub plan_places : ℕ → ℕ
@@ -16,19 +16,9 @@ plan_places n = 2 ^ (n - 1)
 abbrev pub plan_refuses : ℕ → List ℕ → ℕ → ℕ → ℕ
 plan_refuses n t values cares = first_of (table_conditions n t ++ (when (short values (plan_places n) || short cares (plan_places n)) 4 ∷ []))
 
--- "the number of rows and the sum of their tested bits"
-pub record Totals : Type 0 where
-  pub rows : ℕ
-  pub bits : ℕ
-
--- "Both counts returned are those of the list written"
+-- "the number of rows and the sum of their tested bits": the totals of a list
 abbrev pub totals_of : ℕ → Cover → Totals
 totals_of n list = record { rows = length list; bits = cover_literals n list }
-
--- the paper's number and values for each case of the answer
-abbrev pub plan_answer : Planned → Answer Totals
-plan_answer (planned.Rows r b) = gives (record { rows = r; bits = b })
-plan_answer (planned.Refused k) = refuses k
 
 -- each number is at least b, and each is above the one before
 unfoldable pub ascends_from : ℕ → List ℕ → Bool
@@ -47,14 +37,14 @@ abbrev pub cares_of : Cover → List ℕ
 cares_of list = map (λ r. r.care) list
 
 -- Demand 3, for a call with these arrays before and after, and this answer.
-pub record Plans (n : ℕ) (t values cares values' cares' : List ℕ) (r : Planned) : Type 0 where
+pub record Plans (n : ℕ) (t values cares values' cares' : List ℕ) (r : Result Totals Refusal) : Type 0 where
   -- left open: which of several equally good lists is written
   pub list : Cover
   -- "For every accepted table": a list of the table's width, right for the table, and no such list is better
   pub minimum : plan_refuses n t (length values) (length cares) ≡ 0 → Minimum n t list
   pub is_ascending : plan_refuses n t (length values) (length cares) ≡ 0 → T (ascending (map (number_of n) list))
   -- "Both counts returned are those of the list written"; on refusal the number alone
-  pub answer : plan_answer r ≡ answered (plan_refuses n t (length values) (length cares)) (totals_of n list)
+  pub answer : answer_of r ≡ answered (plan_refuses n t (length values) (length cares)) (totals_of n list)
   -- "whatever the two arrays held before, take from the first place of each as many places as the row count returned"; on refusal, unchanged
   pub values_are : values' ≡ written (plan_refuses n t (length values) (length cares)) (values_of list) values
   pub cares_are : cares' ≡ written (plan_refuses n t (length values) (length cares)) (cares_of list) cares

@@ -3,143 +3,126 @@
 //
 //     let mut values = [0u8; 2];
 //     let mut cares = [0u8; 2];
-//     plan::plan(2, &[0, 1, 1, 1], &mut values, &mut cares)   // 2 rows, 2 bits: 1- and -1, values 2 1, cares 2 1
-#![tactic(auto)]
+//     plan::plan(2, &[0, 1, 1, 1], &mut values, &mut cares)   // Ok: 2 rows, 2 bits: 1- and -1, values 2 1, cares 2 1
+#![tactic(auto, using(cube::proofs::Calls::refusals))]
 
-ghost use Rattle.std.specs.Prelude.{◌≡◌, ℕ, ◌+◌, ◌<◌, ◌≤◌, ◌^◌, length, take, get_or};
-ghost use Rattle.numbers.specs.Lent.{Puts};
-ghost use Rattle.cube.specs.Calls.{widest};
-ghost use Rattle.plan.specs.Plan.{plan_refuses, Plans};
-ghost use Rattle.plan.specs.Steps.{row_weight, Lightest, Chosen, Pickable, picked_cubes, Spellable, SpelledInto};
+ghost use Rattle.std.specs.Prelude.{◌≡◌, ◌-◌, ◌≤◌, ◌^◌, length, map, IfOk, OnOk};
+ghost use Rattle.numbers.specs.Below.{those};
+ghost use Rattle.cube.specs.Words.{value_of, care_of};
+ghost use Rattle.cube.specs.Calls.{widest, refusal_of, written};
+ghost use Rattle.matrix.specs.Sets.{row_limit, member};
+ghost use Rattle.plan.specs.Plan.{plan_places, plan_refuses, Plans};
+ghost use Rattle.plan.specs.Steps.{words_of, Lightest, Chosen, picked_cubes, Spellable};
+ghost use Rattle.search.specs.Search.{Coverable};
 
-use matrix::{columns, rows};
-use search::Solution;
+use arrayvec::ArrayVec;
+use chart_arrays::ChartRow;
+use cube::Refusal;
+use incumbent::Cover;
+use matrix::{Matrix, columns, rows};
 use spelling::{MOST_CODE_PAIRS, MOST_CUBES};
+use tables::Table;
 
 // What a row weighs, not counting its tested bits.
-const ROW_WEIGHT: usize = 10000;
+const ROW_WEIGHT: u32 = 10_000;
 
-// The number of rows and the sum of their tested bits, or the number of the refusal.
-#[derive(Drop)]
-pub enum Planned {
-    Rows(usize, usize),
-    Refused(u8),
+// The number of rows of a list, and the sum of their tested bits. Fewer rows come first, and then fewer bits.
+#[derive(Clone, Copy, PartialEq, Eq, PartialOrd, Ord)]
+pub struct Totals {
+    pub rows: usize,
+    pub bits: usize,
 }
 
-// A shortest list: how many rows, their tested bits, and their cubes, ascending, in the first places.
+// A shortest list: its cubes, ascending, and their tested bits.
 #[derive(Drop)]
 struct CubeList {
-    count: usize,
+    cubes: ArrayVec<u16, MOST_CODE_PAIRS>,
     bits: usize,
-    cubes: [u16; MOST_CODE_PAIRS],
 }
 
-// Fills in the weights of the first rows by their tested bits.
-fn fill_weights(literals: &[u8], count: usize, weights: &mut [u32])
-    requires { (count ≤ length literals.now) × (count ≤ length weights.old) }
-    ensures { (i : ℕ) → i < count → get_or weights.new i 0 ≡ row_weight + get_or literals.now i 0 }
+// The lightest selection of chart rows that covers the columns.
+fn lightest(rows: &[ChartRow], columns: columns::Set) -> Cover
+    requires few { length rows.now ≤ 3 ^ widest }
+    requires coverable { Coverable (words_of rows.now) columns }
+    ensures { Lightest rows.now columns result }
 {
-    let mut i = 0;
-    while i < count {
-        weights[i] = ROW_WEIGHT as u32 + literals[i] as u32;
-        i += 1;
+    let mut words: ArrayVec<columns::Set, MOST_CUBES> = ArrayVec::new();
+    let mut weights: ArrayVec<u32, MOST_CUBES> = ArrayVec::new();
+    for row in rows {
+        words.push(row.word);
+        weights.push(ROW_WEIGHT + u32::from(row.literals));
+    }
+    let matrix = Matrix::new(words.as_slice(), weights.as_slice());
+    search::minimum_cover(matrix, columns).cover.unwrap()
+}
+
+// The cubes of the picked rows, ascending.
+fn picked_cubes(picked: &rows::Set, rows: &[ChartRow]) -> ArrayVec<u16, MOST_CODE_PAIRS>
+    requires few { length rows.now ≤ row_limit }
+    requires room { length (those (length rows.now) (member picked.now)) ≤ 2 ^ (widest - 1) }
+    ensures { result.items ≡ picked_cubes picked.now rows.now }
+{
+    let mut cubes = ArrayVec::new();
+    for i in picked.iter(rows.len()) {
+        cubes.push(rows[i].cube);
+    }
+    cubes
+}
+
+// A shortest list for a table.
+fn shortest(table: Table) -> CubeList
+    ensures { Chosen table.entry.width table.entry.cells.now result.cubes.items result.bits }
+{
+    let chart = chart_arrays::build(table);
+    let rows = chart.as_slice();
+    let found = lightest(rows, chart_arrays::wanted(table));
+    let cubes = picked_cubes(&found.rows, rows);
+    let bits = found.weight as usize - ROW_WEIGHT as usize * cubes.len();
+    CubeList { cubes, bits }
+}
+
+// Writes the values and the cares of some cubes, from the first place on.
+#[tactic(auto, using(crate::proofs::Written::map_written))]
+fn write_rows(n: usize, cubes: &[u16], values: &mut [u8], cares: &mut [u8])
+    requires { Spellable n cubes.now values.old cares.old }
+    ensures values_are { values.new ≡ written 0 (map (value_of n) cubes.now) values.old }
+    ensures cares_are { cares.new ≡ written 0 (map (care_of n) cubes.now) cares.old }
+{
+    for (i, q) in cubes.iter().enumerate() {
+        let row = spelling::row(n, *q as usize);
+        values[i] = row.value;
+        cares[i] = row.care;
     }
 }
 
-// Lists the cubes of the picked rows, ascending, and returns how many there are.
-fn list_picked(picked: &rows::Set, cubes: &[u16], rows: usize, list: &mut [u16]) -> usize
-    requires { Pickable picked.now cubes.now rows list.old }
-    ensures { Puts (picked_cubes picked.now cubes.now rows) list.old 0 list.new result }
+// The table that Plan takes with arrays of these lengths: refused as every table is, then for fewer than 2^(n-1) places in either array.
+pub fn accept<'a>(
+    n: usize,
+    table: &'a [u8],
+    values: usize,
+    cares: usize,
+) -> Result<Table<'a>, Refusal>
+    ensures refusal { refusal_of result ≡ plan_refuses n table.now values cares }
+    ensures table { IfOk result (λ t. (t.width ≡ n) × (t.cells.now ≡ table.now)) }
+    ensures places { OnOk result ((plan_places n ≤ values) × (plan_places n ≤ cares)) }
 {
-    let mut count = 0;
-    let mut i = 0;
-    while i < rows {
-        if rows::has(picked, i) {
-            list[count] = cubes[i];
-            count += 1;
-        }
-        i += 1;
-    }
-    count
-}
-
-// Writes the values and the cares of the first cubes, from the first place on.
-fn write_rows(n: usize, cubes: &[u16], count: usize, values: &mut [u8], cares: &mut [u8])
-    requires { Spellable n cubes.now count values.old cares.old }
-    ensures { SpelledInto n cubes.now count values.old cares.old values.new cares.new }
-{
-    let mut i = 0;
-    while i < count {
-        let q = cubes[i] as usize;
-        values[i] = spelling::value(n, q);
-        cares[i] = spelling::care(n, q);
-        i += 1;
-    }
-}
-
-// The lightest selection of the first rows that covers the columns.
-fn lightest<'a>(
-    words: &'a [u64],
-    literals: &'a [u8],
-    rows: usize,
-    columns: columns::Set,
-) -> Solution
-    requires { (rows ≤ 3 ^ widest) × (rows ≤ length words.now) × (rows ≤ length literals.now) }
-    ensures { Lightest (take rows words.now) literals.now columns result }
-{
-    let mut weights = [0u32; MOST_CUBES];
-    fill_weights(literals, rows, &mut weights);
-    search::minimum_cover(&words[..rows], &weights[..rows], columns)
-}
-
-// A shortest list for a table of n variables.
-fn shortest(n: usize, table: &[u8]) -> CubeList
-    requires { (n ≤ widest) × (length table.now ≡ 2 ^ n) }
-    ensures { Chosen n table.now result.cubes result.count result.bits }
-{
-    let chart = chart_arrays::build(n, table);
-    let found = lightest(
-        &chart.words,
-        &chart.literals,
-        chart.rows,
-        chart_arrays::row_columns(table, 0, 0),
-    );
-    let mut cubes = [0u16; MOST_CODE_PAIRS];
-    let count = list_picked(&found.picked, &chart.cubes, chart.rows, &mut cubes);
-    CubeList {
-        count,
-        bits: found.weight as usize - ROW_WEIGHT * count,
-        cubes,
-    }
-}
-
-// What Plan refuses: 1, 2, 3, 4, or 0 where none of these holds.
-pub fn plan_refusal(n: usize, table: &[u8], values: usize, cares: usize) -> u8
-    ensures { result ≡ plan_refuses n table.now values cares }
-{
-    let k = tables::table_refusal(n, table);
-    if k != 0 {
-        return k;
-    }
+    let accepted = Table::new(n, table)?;
     let places = spelling::codes(n - 1);
-    if values < places {
-        return 4;
+    if values < places || cares < places {
+        return Err(Refusal::ShortOutput);
     }
-    if cares < places {
-        return 4;
-    }
-    0
+    Ok(accepted)
 }
 
-// Writes a shortest list for a table into the first places of both arrays, ascending by cube number. Answers its counts, or the number of the refusal.
-pub fn plan(n: usize, table: &[u8], values: &mut [u8], cares: &mut [u8]) -> Planned
+// Writes a shortest list for a table into the first places of both arrays, ascending by cube number, and answers its totals.
+pub fn plan(n: usize, table: &[u8], values: &mut [u8], cares: &mut [u8]) -> Result<Totals, Refusal>
     ensures { Plans n table.now values.old cares.old values.new cares.new result }
 {
-    let k = plan_refusal(n, table, values.len(), cares.len());
-    if k != 0 {
-        return Planned::Refused(k);
-    }
-    let list = shortest(n, table);
-    write_rows(n, &list.cubes, list.count, values, cares);
-    Planned::Rows(list.count, list.bits)
+    let table = accept(n, table, values.len(), cares.len())?;
+    let list = shortest(table);
+    write_rows(n, list.cubes.as_slice(), values, cares);
+    Ok(Totals {
+        rows: list.cubes.len(),
+        bits: list.bits,
+    })
 }

@@ -1,5 +1,5 @@
 -- The sizes of the linear program for prices: how many rows and how many places its tableau holds. Definitions only. Assumes nothing.
-use Rattle.std.specs.Prelude.{ℕ, ◌+◌, ◌≤◌}
+use Rattle.std.specs.Prelude.{ℕ, ◌+◌}
 use Rattle.matrix.specs.Sets.{column_limit}
 
 -- the linear program has no more rows than this
@@ -9,8 +9,3 @@ most_rows = 96
 -- and no more places: the price of each column, and the price of a row
 abbrev pub most_places : ℕ
 most_places = column_limit + 1
-
--- some rows and some places fit into the tableau
-pub record InTableau (rows places : ℕ) : Type 0 where
-  pub few : rows ≤ most_rows
-  pub narrow : places ≤ most_places

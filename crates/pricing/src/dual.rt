@@ -1,365 +1,222 @@
 // Dual ascent: prices for the columns, as high as the rows' weights allow. A heuristic: nothing is promised about the prices, since the certificate is
-// checked. A row's slack is its capacity, which is its weight less the price of a row, less the prices of its undecided columns. Prices, capacities and
+// checked. A row's slack is its capacity, which is its weight less the fee of a row, less the prices of its undecided columns. Prices, capacities and
 // slacks are counted in parts of a unit of weight, and added and subtracted modulo 2 ^ 32.
-ghost use Rattle.std.specs.Prelude.{◌<◌, ◌≤◌, length};
-ghost use Rattle.matrix.specs.Sets.{column_limit, row_limit};
-ghost use Rattle.matrix.specs.Matrix.{row_count, Sizes};
+ghost use Rattle.std.specs.Prelude.{◌≡◌, ◌-◌, ◌*◌, ◌%◌, ◌<◌};
+ghost use Rattle.matrix.specs.Sets.{column_limit};
+ghost use Rattle.matrix.specs.Matrix.{row_count, weight_of, weight_limit};
 ghost use Rattle.pricing.specs.Prices.{level_count};
 
 use crate::Prices;
-use matrix::{columns, rows, transposed};
+use matrix::transposed::ByColumn;
+use matrix::{Subproblem, columns, rows};
 
 // A slack for each row.
-pub type Slacks = [u32; rows::LIMIT];
+type Slacks = [u32; rows::LIMIT];
 
 // The levels of columns, which are raised one after the other.
 const LEVELS: usize = 16;
 
-// The lower of two prices, or of two slacks.
-fn lower(a: u32, b: u32) -> u32 {
-    if b < a { b } else { a }
+// A covering problem whose columns get prices: its rows by column, how many parts a unit of weight has, and the fee of a row in such parts.
+#[derive(Clone, Copy)]
+pub struct Problem<'a> {
+    pub covering: Subproblem<'a>,
+    pub by_column: &'a ByColumn,
+    pub scale: u32,
+    pub fee: u64,
 }
 
-// The least slack of the rows of a set below `end`.
-fn least_slack(slack: &Slacks, set: &rows::Set, end: usize) -> u32
-    requires { end ≤ row_limit }
-{
-    let mut least = u32::MAX;
-    let mut i = rows::next(set, 0, end);
-    while i < end {
-        least = lower(least, slack[i]);
-        if least == 0 {
-            return 0;
+impl<'a> Problem<'a> {
+    // The undecided columns of the row i.
+    fn columns_of(&self, i: usize) -> columns::Set
+        requires { i < row_count self.now.covering.matrix.words.now }
+    {
+        self.covering.matrix.columns_of(i) & self.covering.undecided
+    }
+
+    // What the row i has for its columns: its weight less the fee, in parts, modulo 2 ^ 32.
+    fn capacity(&self, i: usize) -> u32
+        requires { i < row_count self.now.covering.matrix.words.now }
+        ensures { result ≡ (self.now.scale * weight_of self.now.covering.matrix.weights.now i - self.now.fee) % weight_limit }
+    {
+        let all = u64::from(self.scale) * self.covering.matrix.weight(i);
+        (all.saturating_sub(self.fee) % (1 << 32)) as u32
+    }
+
+    // The undecided columns by the number of their rows: a level for each number, and the last for all higher ones.
+    fn levels(&self) -> [columns::Set; LEVELS] {
+        let mut levels = [columns::NONE; LEVELS];
+        let end = self.covering.matrix.rows();
+        for c in self.covering.undecided {
+            let level = level_of(self.by_column.at(c).len(end));
+            levels[level] = levels[level] | columns::Set::only(c);
         }
-        i = rows::next(set, i + 1, end);
+        levels
     }
-    least
-}
 
-// Adds an amount to the slack of the rows of a set below `end`.
-fn add(slack: &mut Slacks, set: &rows::Set, end: usize, amount: u32)
-    requires { end ≤ row_limit }
-{
-    let mut i = rows::next(set, 0, end);
-    while i < end {
-        slack[i] = std::num::wrapping_add_u32(slack[i], amount);
-        i = rows::next(set, i + 1, end);
+    // The undecided columns of the rows of the column c.
+    fn near(&self, c: usize) -> columns::Set
+        requires { c < column_limit }
+    {
+        let mut near = columns::NONE;
+        for i in self.by_column.at(c).iter(self.covering.matrix.rows()) {
+            near = near | self.covering.matrix.columns_of(i);
+        }
+        near & self.covering.undecided
     }
-}
 
-// Sets a new price for the column c, and changes the slack of its rows with it.
-fn set_price(
-    by_column: &transposed::ByColumn,
-    prices: &mut Prices,
-    slack: &mut Slacks,
-    end: usize,
-    c: usize,
-    price: u32,
-)
-    requires { (end ≤ row_limit) × (c < column_limit) }
-{
-    let amount = std::num::wrapping_sub_u32(prices[c], price);
-    if amount == 0 {
-        return;
+    // Each undecided column at the least fair share of its rows.
+    fn shares(&self) -> Prices {
+        let mut prices = [u32::MAX; columns::LIMIT];
+        for i in self.covering.live.iter(self.covering.matrix.rows()) {
+            let set = self.columns_of(i);
+            let share = self.capacity(i) / (set.len() as u32).max(1);
+            cap(&mut prices, set, share);
+        }
+        prices
     }
-    prices[c] = price;
-    add(slack, &by_column[c], end, amount);
-}
-
-// Raises the price of the column c by the least slack of its rows.
-fn raise(
-    by_column: &transposed::ByColumn,
-    prices: &mut Prices,
-    slack: &mut Slacks,
-    end: usize,
-    c: usize,
-)
-    requires { (end ≤ row_limit) × (c < column_limit) }
-{
-    let amount = least_slack(slack, &by_column[c], end);
-    let price = std::num::wrapping_add_u32(prices[c], amount);
-    set_price(by_column, prices, slack, end, c, price);
-}
-
-// Raises the prices of the columns of a set.
-fn raise_all(
-    by_column: &transposed::ByColumn,
-    prices: &mut Prices,
-    slack: &mut Slacks,
-    end: usize,
-    set: columns::Set,
-)
-    requires { end ≤ row_limit }
-{
-    let mut c = columns::next(set, 0);
-    while c < columns::LIMIT {
-        raise(by_column, prices, slack, end, c);
-        c = columns::next(set, c + 1);
-    }
-}
-
-// The undecided columns by the number of their rows: a level for each number, and the last for all higher ones.
-fn by_rows(
-    by_column: &transposed::ByColumn,
-    end: usize,
-    undecided: columns::Set,
-) -> [columns::Set; LEVELS]
-    requires { end ≤ row_limit }
-{
-    let mut levels = [columns::NONE; LEVELS];
-    let mut c = columns::next(undecided, 0);
-    while c < columns::LIMIT {
-        let level = level_of(rows::size(&by_column[c], end));
-        levels[level] = columns::either(levels[level], columns::only(c));
-        c = columns::next(undecided, c + 1);
-    }
-    levels
 }
 
 // The level of a column with n rows.
 fn level_of(n: usize) -> usize
     ensures { result < level_count }
 {
-    if n < LEVELS - 1 { n } else { LEVELS - 1 }
-}
-
-// Raises the prices of the undecided columns, those with few rows first.
-fn ascend(
-    by_column: &transposed::ByColumn,
-    prices: &mut Prices,
-    slack: &mut Slacks,
-    end: usize,
-    undecided: columns::Set,
-)
-    requires { end ≤ row_limit }
-{
-    let levels = by_rows(by_column, end, undecided);
-    let mut level: usize = 0;
-    while level < LEVELS {
-        raise_all(by_column, prices, slack, end, levels[level]);
-        level += 1;
-    }
-}
-
-// Puts the prices of the columns of a set back to what they were.
-fn restore(
-    by_column: &transposed::ByColumn,
-    prices: &mut Prices,
-    slack: &mut Slacks,
-    end: usize,
-    set: columns::Set,
-    saved: &Prices,
-)
-    requires { end ≤ row_limit }
-{
-    let mut c = columns::next(set, 0);
-    while c < columns::LIMIT {
-        set_price(by_column, prices, slack, end, c, saved[c]);
-        c = columns::next(set, c + 1);
-    }
-}
-
-// The columns of the rows of a set.
-fn columns_of_rows(words: &[u64], set: &rows::Set) -> columns::Set
-    requires { row_count words.now ≤ row_limit }
-{
-    let mut found = columns::NONE;
-    let end = matrix::row_count(words);
-    let mut i = rows::next(set, 0, end);
-    while i < end {
-        found = columns::either(found, matrix::covered(words, i));
-        i = rows::next(set, i + 1, end);
-    }
-    found
-}
-
-// Releases the price of the column c and raises those of its neighbours, unless the prices are then worth less together than they were. Returns what
-// they are worth now.
-fn retry(
-    words: &[u64],
-    by_column: &transposed::ByColumn,
-    prices: &mut Prices,
-    slack: &mut Slacks,
-    undecided: columns::Set,
-    worth: u64,
-    c: usize,
-) -> u64
-    requires { (row_count words.now ≤ row_limit) × (c < column_limit) }
-{
-    let saved = *prices;
-    if saved[c] == 0 {
-        return worth;
-    }
-    let end = matrix::row_count(words);
-    let near = columns::both(columns_of_rows(words, &by_column[c]), undecided);
-    set_price(by_column, prices, slack, end, c, 0);
-    raise_all(
-        by_column,
-        prices,
-        slack,
-        end,
-        columns::without(near, columns::only(c)),
-    );
-    raise(by_column, prices, slack, end, c);
-    let changed = crate::worth(prices, undecided);
-    if worth <= changed {
-        return changed;
-    }
-    restore(by_column, prices, slack, end, near, &saved);
-    worth
-}
-
-// Retries each undecided column.
-fn improve(
-    words: &[u64],
-    by_column: &transposed::ByColumn,
-    prices: &mut Prices,
-    slack: &mut Slacks,
-    undecided: columns::Set,
-)
-    requires { row_count words.now ≤ row_limit }
-{
-    let mut worth = crate::worth(prices, undecided);
-    let mut c = columns::next(undecided, 0);
-    while c < columns::LIMIT {
-        worth = retry(words, by_column, prices, slack, undecided, worth, c);
-        c = columns::next(undecided, c + 1);
-    }
+    n.min(LEVELS - 1)
 }
 
 // Cuts the prices of the columns of a set down to a share.
 fn cap(prices: &mut Prices, set: columns::Set, share: u32) {
-    let mut c = columns::next(set, 0);
-    while c < columns::LIMIT {
-        prices[c] = lower(prices[c], share);
-        c = columns::next(set, c + 1);
+    for c in set {
+        prices[c] = prices[c].min(share);
     }
 }
 
-// A row's capacity shared by n columns.
-fn fair(capacity: u32, n: u32) -> u32 {
-    if n == 0 { capacity } else { capacity / n }
+// An ascent of a problem: the prices on their way up, and each row's slack.
+#[derive(Drop)]
+struct Ascent<'a> {
+    problem: &'a Problem<'a>,
+    prices: Prices,
+    slacks: Slacks,
 }
 
-// What a row has for its columns: its weight less the price of a row, in parts of `SCALE`, modulo 2 ^ 32.
-fn capacity(weights: &[u32], fee: u64, i: usize) -> u32
-    requires { i < length weights.now }
-{
-    let all = crate::SCALE * matrix::weight(weights, i);
-    (crate::left_of(all, fee) % 4294967296) as u32
-}
+impl<'a> Ascent<'a> {
+    // Sets the slack of each live row: what it has left once it pays the prices of its undecided columns.
+    fn set_slacks(&mut self) {
+        let problem = self.problem;
+        for i in problem.covering.live.iter(problem.covering.matrix.rows()) {
+            let paid = crate::worth(&self.prices, problem.columns_of(i));
+            self.slacks[i] = u64::from(problem.capacity(i)).saturating_sub(paid) as u32;
+        }
+    }
 
-// Each undecided column at the least fair share of its rows.
-fn shares(
-    words: &[u64],
-    weights: &[u32],
-    live: &rows::Set,
-    undecided: columns::Set,
-    fee: u64,
-    prices: &mut Prices,
-)
-    requires { Sizes words.now weights.now }
-{
-    *prices = [u32::MAX; columns::LIMIT];
-    let end = matrix::row_count(words);
-    let mut i = rows::next(live, 0, end);
-    while i < end {
-        let set = columns::both(matrix::covered(words, i), undecided);
-        let share = fair(capacity(weights, fee, i), columns::size(set));
-        cap(prices, set, share);
-        i = rows::next(live, i + 1, end);
+    // The least slack of the rows of the column c.
+    fn least_slack(&self, c: usize) -> u32
+        requires { c < column_limit }
+    {
+        let end = self.problem.covering.matrix.rows();
+        let mut least = u32::MAX;
+        for i in self.problem.by_column.at(c).iter(end) {
+            least = least.min(self.slacks[i]);
+            if least == 0 {
+                return 0;
+            }
+        }
+        least
+    }
+
+    // Sets a new price for the column c, and changes the slack of its rows with it.
+    fn set_price(&mut self, c: usize, price: u32)
+        requires { c < column_limit }
+    {
+        let amount = self.prices[c].wrapping_sub(price);
+        if amount == 0 {
+            return;
+        }
+        self.prices[c] = price;
+        let end = self.problem.covering.matrix.rows();
+        for i in self.problem.by_column.at(c).iter(end) {
+            self.slacks[i] = self.slacks[i].wrapping_add(amount);
+        }
+    }
+
+    // Raises the price of the column c by the least slack of its rows.
+    fn raise(&mut self, c: usize)
+        requires { c < column_limit }
+    {
+        let price = self.prices[c].wrapping_add(self.least_slack(c));
+        self.set_price(c, price);
+    }
+
+    // Raises the prices of the columns of a set.
+    fn raise_all(&mut self, set: columns::Set) {
+        for c in set {
+            self.raise(c);
+        }
+    }
+
+    // Puts the prices of the columns of a set back to what they were.
+    fn restore(&mut self, set: columns::Set, saved: &Prices) {
+        for c in set {
+            self.set_price(c, saved[c]);
+        }
+    }
+
+    // Raises the prices of the undecided columns, those with few rows first.
+    fn ascend(&mut self) {
+        for level in self.problem.levels() {
+            self.raise_all(level);
+        }
+    }
+
+    // Releases the price of the column c and raises those of its neighbours, unless the prices are then worth less together than they were. Returns what
+    // they are worth now.
+    fn retry(&mut self, worth: u64, c: usize) -> u64
+        requires { c < column_limit }
+    {
+        if self.prices[c] == 0 {
+            return worth;
+        }
+        let saved = self.prices;
+        let near = self.problem.near(c);
+        self.set_price(c, 0);
+        self.raise_all(near - columns::Set::only(c));
+        self.raise(c);
+        let changed = crate::worth(&self.prices, self.problem.covering.undecided);
+        if worth <= changed {
+            return changed;
+        }
+        self.restore(near, &saved);
+        worth
+    }
+
+    // Retries each undecided column.
+    fn improve(&mut self) {
+        let undecided = self.problem.covering.undecided;
+        let mut worth = crate::worth(&self.prices, undecided);
+        for c in undecided {
+            worth = self.retry(worth, c);
+        }
     }
 }
 
-// The slack of a row with some capacity that pays `paid` for its undecided columns.
-fn slack_of(capacity: u32, paid: u64) -> u32 {
-    if paid < capacity as u64 {
-        (capacity as u64 - paid) as u32
-    } else {
-        0
-    }
-}
-
-// The slack of the live rows.
-fn slacks(
-    words: &[u64],
-    weights: &[u32],
-    live: &rows::Set,
-    undecided: columns::Set,
-    fee: u64,
-    prices: &Prices,
-    slack: &mut Slacks,
-)
-    requires { Sizes words.now weights.now }
-{
-    let end = matrix::row_count(words);
-    let mut i = rows::next(live, 0, end);
-    while i < end {
-        let set = columns::both(matrix::covered(words, i), undecided);
-        let paid = crate::worth(prices, set);
-        slack[i] = slack_of(capacity(weights, fee, i), paid);
-        i = rows::next(live, i + 1, end);
-    }
-}
-
-// An ascent from the prices given, and a pass that improves them.
-fn ascent(
-    words: &[u64],
-    weights: &[u32],
-    live: &rows::Set,
-    undecided: columns::Set,
-    fee: u64,
-    by_column: &transposed::ByColumn,
-    slack: &mut Slacks,
-    prices: &mut Prices,
-)
-    requires { Sizes words.now weights.now }
-{
-    slacks(words, weights, live, undecided, fee, prices, slack);
-    ascend(
-        by_column,
+// Prices by an ascent from those given, and a pass that improves them.
+fn ascended<'a>(problem: &'a Problem<'a>, prices: Prices) -> Prices {
+    let mut ascent = Ascent {
+        problem,
         prices,
-        slack,
-        matrix::row_count(words),
-        undecided,
-    );
-    improve(words, by_column, prices, slack, undecided);
+        slacks: [0; rows::LIMIT],
+    };
+    ascent.set_slacks();
+    ascent.ascend();
+    ascent.improve();
+    ascent.prices
 }
 
 // Prices by an ascent from zero.
-pub fn from_zero(
-    words: &[u64],
-    weights: &[u32],
-    live: &rows::Set,
-    undecided: columns::Set,
-    fee: u64,
-    by_column: &transposed::ByColumn,
-    slack: &mut Slacks,
-    prices: &mut Prices,
-)
-    requires { Sizes words.now weights.now }
-{
-    *prices = [0u32; columns::LIMIT];
-    ascent(
-        words, weights, live, undecided, fee, by_column, slack, prices,
-    );
+pub fn from_zero(problem: &Problem) -> Prices {
+    ascended(problem, [0; columns::LIMIT])
 }
 
 // Prices by an ascent from each column's fair share of its rows.
-pub fn from_shares(
-    words: &[u64],
-    weights: &[u32],
-    live: &rows::Set,
-    undecided: columns::Set,
-    fee: u64,
-    by_column: &transposed::ByColumn,
-    slack: &mut Slacks,
-    prices: &mut Prices,
-)
-    requires { Sizes words.now weights.now }
-{
-    shares(words, weights, live, undecided, fee, prices);
-    ascent(
-        words, weights, live, undecided, fee, by_column, slack, prices,
-    );
+pub fn from_shares(problem: &Problem) -> Prices {
+    ascended(problem, problem.shares())
 }

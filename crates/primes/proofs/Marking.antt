@@ -1,21 +1,23 @@
--- A mark tells its test, and the test by the kinds of the cubes is the test of a prime that serves: the number with a digit made 2 is the cube with 2 put
--- there. The marked cubes are those that pass the test. Assumes nothing.
+-- The test by the kinds of the cubes is the test of a prime that serves: the number with a digit made 2 is the cube with 2 put there. The marked cubes
+-- are those that pass the test. Assumes nothing.
 use mathlib.Core.Path.{◌≡◌, refl, sym, ap, ap₂, ◌∙◌, subst⁻¹}
 use mathlib.Core.Bool.{Bool, true, false, not, ◌&&◌}
 use mathlib.Core.List.{List}
 use Prim.Native.Nat.{ℕ, ◌+◌, ◌*◌, ◌-◌, ◌^◌, ◌<◌}
 use native.Mathlib.Nat.{add-mul, sub-add_cancel, le_of_suc-le-suc}
 use native.Mathlib.Omega.{arith}
-use lib.Dec.{eqb, lit<}
-use mir.Val.{bool_byte}
-use Rattle.numbers.specs.Below.{flag, some, those}
+use lib.Dec.{lit<}
+use lib.ListN.{get_or}
+use Rattle.numbers.specs.Below.{some, those}
 use Rattle.numbers.specs.Lent.{Puts}
 use Rattle.cube.specs.Words.{tested, digit, implicant, serves, serving_prime}
 use Rattle.numbers.proofs.Below.{some_same, those_same}
 use Rattle.numbers.proofs.Lent.{puts_same}
 use Rattle.cube.proofs.Digits.{put_digit, put_lt, put_weight, digit_lt}
 use Rattle.cube.proofs.Implicants.{expands, maximal, prime_is_maximal}
-use Rattle.primes.specs.Steps.{kind, Kinds, Marks, is_marked, freed, expands_by, serving_prime_by}
+use Rattle.primes.specs.Steps.{kind, Kinds, Marks, is_marked, freed, of_implicant, of_serving, expands_by, serving_prime_by}
+use Rattle.primes.specs.declared.Kind.{Kind}
+use Rattle.primes.specs.declared.Kind.TheVariants.{NoImplicant}
 
 freed_is : (k q : ℕ) → freed k q ≡ put_digit k 2 q
 freed_is k q =
@@ -26,28 +28,12 @@ freed_is k q =
 pub freed_lt : (n k q : ℕ) → k < n → q < 3 ^ n → freed k q < 3 ^ n
 freed_lt n k q l h = subst⁻¹ (λ (i : ℕ). i < 3 ^ n) (freed_is k q) (put_lt n k 2 q l (lit< tt) h)
 
--- a test stored as a byte is its flag
-pub byte_is : (a b : Bool) → a ≡ b → bool_byte a ≡ flag b
-byte_is a b e = go a ∙ ap flag e
-  where
-    go : (x : Bool) → bool_byte x ≡ flag x
-    go true = refl
-    go false = refl
-
--- a mark of a test tells the test
-pub marked_is : (f : ℕ → Bool) (marks : List ℕ) (m q : ℕ) → Marks f marks m → q < m → is_marked marks q ≡ f q
-marked_is f marks m q h l = ap (λ (i : ℕ). not (eqb i 0)) (h q l) ∙ tells (f q)
-  where
-    tells : (b : Bool) → not (eqb (flag b) 0) ≡ b
-    tells true = refl
-    tells false = refl
-
-module _ (n : ℕ) (t kinds : List ℕ) (m : Kinds n t kinds (3 ^ n)) where
+module _ (n : ℕ) (t : List ℕ) (kinds : List Kind) (m : Kinds n t kinds (3 ^ n)) where
   -- a kind tells whether the cube is an implicant
-  implicant-kind : (q : ℕ) → q < 3 ^ n → is_marked kinds q ≡ implicant n t q
-  implicant-kind q l = ap (λ (i : ℕ). not (eqb i 0)) (m q l) ∙ go (implicant n t q) (serves n t q)
+  implicant-kind : (q : ℕ) → q < 3 ^ n → of_implicant (get_or kinds q NoImplicant) ≡ implicant n t q
+  implicant-kind q l = ap of_implicant (m q l) ∙ go (implicant n t q) (serves n t q)
     where
-      go : (i s : Bool) → not (eqb (kind i s) 0) ≡ i
+      go : (i s : Bool) → of_implicant (kind i s) ≡ i
       go true true = refl
       go true false = refl
       go false s = refl
@@ -60,11 +46,11 @@ module _ (n : ℕ) (t kinds : List ℕ) (m : Kinds n t kinds (3 ^ n)) where
     pub serving_by_kinds : serving_prime_by n kinds q ≡ serving_prime n t q
     unfolding serving_prime_by maximal
     serving_by_kinds =
-        ap₂ (λ (i : ℕ) (b : Bool). eqb i 2 && not b) (m q l) (some_same n (expands_by kinds q) (expands n t q) expands_same)
+        ap₂ (λ (i : Kind) (b : Bool). of_serving i && not b) (m q l) (some_same n (expands_by kinds q) (expands n t q) expands_same)
         ∙ go (implicant n t q) (serves n t q) (some n (expands n t q))
         ∙ sym (ap (λ (b : Bool). b && serves n t q) (prime_is_maximal n t q l))
       where
-        go : (i s e : Bool) → (eqb (kind i s) 2 && not e) ≡ ((i && not e) && s)
+        go : (i s e : Bool) → (of_serving (kind i s) && not e) ≡ ((i && not e) && s)
         go true true true = refl
         go true true false = refl
         go true false true = refl
@@ -74,9 +60,6 @@ module _ (n : ℕ) (t kinds : List ℕ) (m : Kinds n t kinds (3 ^ n)) where
 -- ---- the marked cubes
 
 -- the marked cubes are those that pass, where the marks are those of a test
-module _ (n : ℕ) (f : ℕ → Bool) (marks old : List ℕ) (k : Marks f marks (3 ^ n)) where
-  marked_list : those (3 ^ n) (is_marked marks) ≡ those (3 ^ n) f
-  marked_list = those_same (3 ^ n) (is_marked marks) f (λ q l. marked_is f marks (3 ^ n) q k l)
-
-  pub marked_listed : {x : ℕ} {new : List ℕ} → Puts (those (3 ^ n) (is_marked marks)) old 0 new x → Puts (those (3 ^ n) f) old 0 new x
-  marked_listed p = puts_same marked_list p
+pub marked_listed : (n : ℕ) (f : ℕ → Bool) (marks : List Bool) (old : List ℕ) → Marks f marks (3 ^ n) → {x : ℕ} {new : List ℕ}
+    → Puts (those (3 ^ n) (is_marked marks)) old 0 new x → Puts (those (3 ^ n) f) old 0 new x
+marked_listed n f marks old k p = puts_same (those_same (3 ^ n) (is_marked marks) f k) p

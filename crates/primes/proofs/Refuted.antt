@@ -5,10 +5,11 @@ use mathlib.Core.List.{List, [], ◌∷◌}
 use Prim.Native.Nat.{ℕ}
 use native.Mathlib.Omega.{arith}
 use lib.ListN.{get_or}
+use Rattle.std.specs.Prelude.{Result}
 use Rattle.numbers.specs.Below.{every, some, those}
 use Rattle.cube.specs.Words.{cube_matches, cube_literals, within, implicant, prime, serves, serving_primes_of}
 use Rattle.cube.specs.Calls.{bad_cell, Listed}
-use Rattle.cube.specs.declared.Counted.{Counted}
+use Rattle.cube.specs.declared.Refusal.{Refusal}
 use Rattle.tables.specs.Listing.{primes_refuses}
 
 -- case d of document 01: wanted 0, free 3
@@ -24,15 +25,15 @@ abbrev both_wanted : List ℕ
 both_wanted = 1 ∷ 0 ∷ 0 ∷ 1 ∷ []
 
 -- its two primes, descending
-pub descending : (r : Counted) → Listed (primes_refuses 2 both_wanted 9) (serving_primes_of 2 both_wanted) (seven 7 (7 ∷ 7 ∷ [])) (4 ∷ 0 ∷ seven 7 []) r → ⊥
+pub descending : (r : Result ℕ Refusal) → Listed (primes_refuses 2 both_wanted 9) (serving_primes_of 2 both_wanted) (seven 7 (7 ∷ 7 ∷ [])) (4 ∷ 0 ∷ seven 7 []) r → ⊥
 unfolding every some those cube_matches cube_literals within implicant prime serves serving_primes_of bad_cell
 descending r p = let z : ◌≡◌ {A = ℕ} 4 0 = ap (λ (l : List ℕ). get_or l 0 0) p.places in omega arith
 
 -- two primes for case d: 11, which matches the free code alone, beside 00
-pub free_code_alone : (r : Counted) → Listed (primes_refuses 2 case_d 9) (serving_primes_of 2 case_d) (seven 7 (7 ∷ 7 ∷ [])) (0 ∷ 4 ∷ seven 7 []) r → ⊥
+pub free_code_alone : (r : Result ℕ Refusal) → Listed (primes_refuses 2 case_d 9) (serving_primes_of 2 case_d) (seven 7 (7 ∷ 7 ∷ [])) (0 ∷ 4 ∷ seven 7 []) r → ⊥
 unfolding every some those cube_matches cube_literals within implicant prime serves serving_primes_of bad_cell
 free_code_alone r p = let z : ◌≡◌ {A = ℕ} 4 7 = ap (λ (l : List ℕ). get_or l 1 0) p.places in omega arith
 
 -- a place written though the width is refused
-pub written_on_refusal : (r : Counted) → Listed (primes_refuses 0 case_d 1) (serving_primes_of 0 case_d) (7 ∷ []) (0 ∷ []) r → ⊥
+pub written_on_refusal : (r : Result ℕ Refusal) → Listed (primes_refuses 0 case_d 1) (serving_primes_of 0 case_d) (7 ∷ []) (0 ∷ []) r → ⊥
 written_on_refusal r p = let z : ◌≡◌ {A = ℕ} 0 7 = ap (λ (l : List ℕ). get_or l 0 0) p.places in omega arith

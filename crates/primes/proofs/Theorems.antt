@@ -4,22 +4,22 @@ use mathlib.Core.Path.{◌≡◌, subst, subst⁻¹}
 use mathlib.Core.List.{List}
 use Prim.Native.Nat.{ℕ}
 use lib.ListN.{length}
+use Rattle.std.specs.Prelude.{Result, Ok}
 use Rattle.numbers.specs.Below.{EachOnce}
 use Rattle.cube.specs.Words.{serving_primes_of}
 use Rattle.cube.specs.Calls.{Listed}
 use Rattle.cube.specs.McCluskey.{CrossedRow}
-use Rattle.cube.specs.declared.Counted.{Counted}
-use Rattle.cube.specs.declared.Counted.TheVariants.{Count}
+use Rattle.cube.specs.declared.Refusal.{Refusal}
 use Rattle.cube.proofs.Calls.{listed_front, listed_behind, listed_counts}
 use Rattle.cube.proofs.McCluskey.{agreement}
 use Rattle.tables.specs.Listing.{primes_refuses}
 use Rattle.primes.specs.Theorems.{Report, Reported, Reports, ReportsPrimes}
 
 module _ (P : ℕ → Type 0) (refusal : ℕ) (list old new : List ℕ) (each : EachOnce list P) where
-  report : (k : ℕ) → Listed refusal list old new (Count k) → Report P old new k
+  report : (k : ℕ) → Listed refusal list old new (Ok k) → Report P old new k
   report k p = record { terms = subst⁻¹ (λ (l : List ℕ). EachOnce l P) (listed_front p) each; behind = listed_behind p }
 
-  reported : (r : Counted) → refusal ≡ 0 → Listed refusal list old new r → Reported P old new r
+  reported : (r : Result ℕ Refusal) → refusal ≡ 0 → Listed refusal list old new r → Reported P old new r
   reported r e p =
       let k = listed_counts r e p in
       record { count = k.0; answer = k.1; report = report k.0 (subst (Listed refusal list old new) k.1 p) }

@@ -3,8 +3,8 @@
 // implicants that serve and of which no literal can be given up are listed.
 //
 //     let mut places = [0u16; 9];
-//     primes::primes(2, &[1, 0, 0, 2], &mut places)   // count 1: cube 0 (00); 11 matches no wanted code
-#![tactic(auto)]
+//     primes::primes(2, &[1, 0, 0, 2], &mut places)   // Ok(1): cube 0 (00); 11 matches no wanted code
+#![tactic(auto, using(cube::proofs::Calls::refusals, cube::proofs::Calls::cubes_most))]
 
 ghost use Rattle.std.specs.Prelude.{◌≡◌, not, ◌<◌, ◌≤◌, ◌^◌, eqb, length};
 ghost use Rattle.numbers.specs.Below.{those};
@@ -12,76 +12,71 @@ ghost use Rattle.numbers.specs.Lent.{Puts};
 ghost use Rattle.cube.specs.Words.{serving_prime, serving_primes_of};
 ghost use Rattle.cube.specs.Calls.{widest, Listed};
 ghost use Rattle.tables.specs.Listing.{primes_refuses};
-ghost use Rattle.primes.specs.Steps.{Markable, kind, kind_of, Kinds, Joins, MarksBelow, is_marked, expands_by, serving_prime_by};
+ghost use Rattle.primes.specs.Steps.{kind, kind_of, Kinds, Joins, MarksBelow, is_marked, expands_by, serving_prime_by};
 
 use cells::Split;
-use cube::Counted;
+use cube::Refusal;
 use spelling::MOST_CUBES;
+use tables::Table;
 
-// The kind of a cube that is no implicant.
-const NO_IMPLICANT: u8 = 0;
-
-// The kind of an implicant that matches free codes alone.
-const IDLE: u8 = 1;
-
-// The kind of an implicant that serves.
-const SERVING: u8 = 2;
+// What is noted of a cube: of two kinds of implicants the greater one tells whether one of them serves.
+#[derive(Clone, Copy, PartialEq, Eq, PartialOrd, Ord)]
+enum Kind {
+    // It is no implicant.
+    NoImplicant,
+    // It is an implicant that matches free codes alone.
+    Idle,
+    // It is an implicant that serves.
+    Serving,
+}
 
 // The kind of a cube that matches one code, by the code's cell.
-fn code_kind(cell: u8) -> u8
+fn code_kind(cell: u8) -> Kind
     ensures { result ≡ kind (not (eqb cell 0)) (eqb cell 1) }
 {
-    if cell == 0 {
-        return NO_IMPLICANT;
+    match cell {
+        0 => Kind::NoImplicant,
+        1 => Kind::Serving,
+        _ => Kind::Idle,
     }
-    if cell == 1 {
-        return SERVING;
-    }
-    IDLE
 }
 
 // The kind of a cube by the kinds of its halves.
-fn joined_kind(low: u8, high: u8) -> u8
+fn joined_kind(low: Kind, high: Kind) -> Kind
     ensures { Joins low high result }
 {
-    if low == NO_IMPLICANT {
-        return NO_IMPLICANT;
+    if low == Kind::NoImplicant || high == Kind::NoImplicant {
+        Kind::NoImplicant
+    } else {
+        low.max(high)
     }
-    if high == NO_IMPLICANT {
-        return NO_IMPLICANT;
-    }
-    if low < high {
-        return high;
-    }
-    low
 }
 
 // The kind of cube q: from its cell, or from the kinds of its halves.
-fn cube_kind(n: usize, table: &[u8], kinds: &[u8], q: usize) -> u8
-    requires { Markable n table.now kinds.now × (q < 3 ^ n) × Kinds n table.now kinds.now q }
-    ensures { result ≡ kind_of n table.now q }
+fn cube_kind(table: Table, kinds: &[Kind], q: usize) -> Kind
+    requires cube { q < 3 ^ table.width }
+    requires enough { 3 ^ table.width ≤ length kinds.now }
+    requires lower { Kinds table.width table.cells.now kinds.now q }
+    ensures { result ≡ kind_of table.entry.width table.entry.cells.now q }
 {
-    match cells::split_at_first(n, q) {
-        Split::Code(code) => code_kind(table[code as usize]),
+    match cells::split_at_first(table.width, q) {
+        Split::Code(code) => code_kind(table.cells[code as usize]),
         Split::Halves(low, high) => joined_kind(kinds[low], kinds[high]),
     }
 }
 
-// Notes the kinds of the cubes of n digits.
-fn note_kinds(n: usize, table: &[u8], kinds: &mut [u8])
-    requires { Markable n table.now kinds.old }
-    ensures { Kinds n table.now kinds.new (3 ^ n) }
+// Notes the kinds of the cubes of a table.
+fn note_kinds(table: Table, kinds: &mut [Kind])
+    requires { 3 ^ table.width ≤ length kinds.old }
+    ensures { Kinds table.entry.width table.entry.cells.now kinds.new (3 ^ table.entry.width) }
 {
-    let cubes = spelling::cubes(n);
-    let mut q = 0;
-    while q < cubes {
-        kinds[q] = cube_kind(n, table, kinds, q);
-        q += 1;
+    for q in 0..table.cubes() {
+        kinds[q] = cube_kind(table, kinds, q);
     }
 }
 
 // Whether digit k of q is a literal that can be given up.
-fn expands(n: usize, kinds: &[u8], q: usize, k: usize) -> bool
+fn expands(n: usize, kinds: &[Kind], q: usize, k: usize) -> bool
     requires { (n ≤ widest) × (3 ^ n ≤ length kinds.now) × (q < 3 ^ n) × (k < n) }
     ensures { result ≡ expands_by kinds.now q k }
 {
@@ -90,95 +85,78 @@ fn expands(n: usize, kinds: &[u8], q: usize, k: usize) -> bool
         return false;
     }
     let wider = q + (2 - d) * spelling::cubes(k);
-    kinds[wider] != NO_IMPLICANT
+    kinds[wider] != Kind::NoImplicant
 }
 
 // Whether q is an implicant that serves and of which no literal can be given up.
 #[tactic(auto, unfolding(crate::specs::Steps::serving_prime_by))]
-fn is_serving_prime(n: usize, kinds: &[u8], q: usize) -> bool
+fn is_serving_prime(n: usize, kinds: &[Kind], q: usize) -> bool
     requires { (n ≤ widest) × (3 ^ n ≤ length kinds.now) × (q < 3 ^ n) }
     ensures { result ≡ serving_prime_by n kinds.now q }
 {
-    if kinds[q] != SERVING {
-        return false;
-    }
-    let mut k = 0;
-    while k < n {
-        if expands(n, kinds, q, k) {
-            return false;
-        }
-        k += 1;
-    }
-    true
+    kinds[q] == Kind::Serving && !(0..n).any(|k| expands(n, kinds, q, k))
 }
 
 // Marks the primes that serve by the kinds of the cubes.
-fn mark_maximal(n: usize, kinds: &[u8], marks: &mut [u8])
+fn mark_maximal(n: usize, kinds: &[Kind], marks: &mut [bool])
     requires { (n ≤ widest) × (3 ^ n ≤ length kinds.now) × (3 ^ n ≤ length marks.old) }
     ensures { MarksBelow (3 ^ n) (serving_prime_by n kinds.now) marks.old marks.new }
 {
-    let cubes = spelling::cubes(n);
-    let mut q = 0;
-    while q < cubes {
-        marks[q] = is_serving_prime(n, kinds, q) as u8;
-        q += 1;
+    for q in 0..spelling::cubes(n) {
+        marks[q] = is_serving_prime(n, kinds, q);
     }
 }
 
-// Marks the primes of a table of n variables that serve: 1 for such a prime, 0 for any other cube. Marks past those of the cubes are left alone.
-pub fn mark_serving_primes(n: usize, table: &[u8], marks: &mut [u8])
-    requires { Markable n table.now marks.old }
-    ensures { MarksBelow (3 ^ n) (serving_prime n table.now) marks.old marks.new }
+// Marks the primes of a table that serve, and no other cube. Marks past those of the cubes are left alone.
+pub fn mark_serving_primes(table: Table, marks: &mut [bool])
+    requires { 3 ^ table.width ≤ length marks.old }
+    ensures { MarksBelow (3 ^ table.entry.width) (serving_prime table.entry.width table.entry.cells.now)
+        marks.old marks.new }
 {
-    let mut kinds = [NO_IMPLICANT; MOST_CUBES];
-    note_kinds(n, table, &mut kinds);
-    mark_maximal(n, &kinds, marks);
+    let mut kinds = [Kind::NoImplicant; MOST_CUBES];
+    note_kinds(table, &mut kinds);
+    mark_maximal(table.width, &kinds, marks);
 }
 
-// Lists the numbers below m that are marked, ascending, and returns how many there are.
-fn list_below(m: usize, marks: &[u8], out: &mut [u16]) -> usize
-    requires { (m ≤ 3 ^ widest) × (m ≤ length marks.now) × (m ≤ length out.old) }
-    ensures { Puts (those m (is_marked marks.now)) out.old 0 out.new result }
+// Lists the marked numbers, ascending, and returns how many there are.
+fn list_all_marked(marks: &[bool], out: &mut [u16]) -> usize
+    requires { (length marks.now ≤ 3 ^ widest) × (length marks.now ≤ length out.old) }
+    ensures { Puts (those (length marks.now) (is_marked marks.now)) out.old 0 out.new result }
 {
     let mut count = 0;
-    let mut q = 0;
-    while q < m {
-        if marks[q] != 0 {
+    for (q, &marked) in marks.iter().enumerate() {
+        if marked {
             out[count] = q as u16;
             count += 1;
         }
-        q += 1;
     }
     count
 }
 
 // Lists the marked cubes of n digits, ascending, and returns how many there are.
-pub fn list_marked(n: usize, marks: &[u8], out: &mut [u16]) -> usize
+pub fn list_marked(n: usize, marks: &[bool], out: &mut [u16]) -> usize
     requires { (n ≤ widest) × (3 ^ n ≤ length marks.now) × (3 ^ n ≤ length out.old) }
     ensures { Puts (those (3 ^ n) (is_marked marks.now)) out.old 0 out.new result }
 {
-    list_below(spelling::cubes(n), marks, out)
+    list_all_marked(&marks[..spelling::cubes(n)], out)
 }
 
-// Lists the primes of a table of n variables that serve, ascending, and returns their number.
-pub fn list_serving_primes(n: usize, table: &[u8], out: &mut [u16]) -> usize
-    requires { (n ≤ widest) × (length table.now ≡ 2 ^ n) × (3 ^ n ≤ length out.old) }
-    ensures { Puts (serving_primes_of n table.now) out.old 0 out.new result }
+// Lists the primes of a table that serve, ascending, and returns their number.
+pub fn list_serving_primes(table: Table, out: &mut [u16]) -> usize
+    requires { 3 ^ table.width ≤ length out.old }
+    ensures { Puts (serving_primes_of table.entry.width table.entry.cells.now) out.old 0 out.new result }
 {
-    let mut marks = [0u8; MOST_CUBES];
-    mark_serving_primes(n, table, &mut marks);
-    list_marked(n, &marks, out)
+    let mut marks = [false; MOST_CUBES];
+    mark_serving_primes(table, &mut marks);
+    list_marked(table.width, &marks, out)
 }
 
-// Writes the primes of a table that match a wanted code into the first places, ascending by cube number. Answers how many there are, or the number
-// of the refusal.
-pub fn primes(n: usize, table: &[u8], out: &mut [u16]) -> Counted
-    ensures { Listed (primes_refuses n table.now (length out.old)) (serving_primes_of n table.now)
+// Writes the primes of a table that match a wanted code into the first places, ascending by cube number. Answers how many there are, or why it
+// refuses.
+pub fn primes(n: usize, cells: &[u8], out: &mut [u16]) -> Result<usize, Refusal>
+    ensures { Listed (primes_refuses n cells.now (length out.old)) (serving_primes_of n cells.now)
         out.old out.new result }
 {
-    let k = tables::listing_refusal(n, table, out.len());
-    if k != 0 {
-        return Counted::Refused(k);
-    }
-    Counted::Count(list_serving_primes(n, table, out))
+    let table = Table::with_places(n, cells, out.len())?;
+    Ok(list_serving_primes(table, out))
 }

@@ -1,31 +1,23 @@
--- What the functions of `product` promise on the way: the text of a sum that is not closed yet, literal by literal, and room for what is printed. No
--- promise of the program cites it. Assumes nothing.
-use Rattle.std.specs.Prelude.{cond, List, [], ◌∷◌, ◌++◌, ℕ, ◌+◌, ◌-◌, ◌*◌, ◌^◌, ◌≤◌, eqb, length}
+-- What the functions of `product` promise on the way: what is left of the text of a sum, and room for what is printed. No promise of the program cites it.
+-- Assumes nothing.
+use Rattle.std.specs.Prelude.{Bool, cond, List, [], ◌∷◌, ◌++◌, ℕ, ◌+◌, ◌-◌, ◌*◌, ◌^◌, eqb}
 use Prim.Native.Char.{code}
-use Rattle.cube.specs.Words.{first_rows}
+use Rattle.numbers.specs.Below.{flag}
 use Rattle.cube.specs.Calls.{widest}
-use Rattle.text.specs.Steps.{most_variables}
-use Rattle.product.specs.Product.{Sum, literal_text, joined_text, excluding_line}
+use Rattle.product.specs.Product.{Literal, Sum, literal_text}
 
--- literals behind the character j, and each further one behind a `+`
-abbrev pub text_behind : ℕ → Sum → List ℕ
-text_behind j [] = []
-text_behind j (l ∷ ls) = (j ∷ literal_text l) ++ joined_text ls
+-- the literal of a tested bit of variable xk
+abbrev pub literal_of : ℕ → Bool → Literal
+literal_of k one = record { variable = k; complemented = eqb (flag one) 1 }
 
--- a sum whose bracket is not closed yet
-abbrev pub open_text : Sum → List ℕ
-open_text ls = text_behind (code "(") ls
+-- the last character of a sum, by the character that would be before its next literal: a bracket where it has none
+abbrev pub last_character : ℕ → ℕ
+last_character before = cond (eqb before (code "(")) (code "0") (code ")")
 
--- what is before a literal at place `at` of a sum that starts at place `start`
-abbrev pub joint_at : ℕ → ℕ → ℕ
-joint_at start at = cond (eqb at start) (code "(") (code "+")
-
--- a list that can be printed: this many rows in two arrays, and a buffer for its line
-pub record PrintableLine (n : ℕ) (values cares : List ℕ) (count : ℕ) (out : List ℕ) : Type 0 where
-  pub width : n ≤ most_variables
-  pub values_long : count ≤ length values
-  pub cares_long : count ≤ length cares
-  pub room : length (excluding_line n (first_rows count values cares)) ≤ length out
+-- what is left of the text of a sum with these literals left, where this character, a bracket or a plus sign, is before the next one
+unfoldable pub rest_text : ℕ → Sum → List ℕ
+rest_text before [] = last_character before ∷ []
+rest_text before (l ∷ ls) = before ∷ literal_text l ++ rest_text (code "+") ls
 
 -- room for any line of a shortest list at the widest width: a bracket or plus sign, `x`, a digit and `'` for each literal, the last bracket of each sum,
 -- and the line feed

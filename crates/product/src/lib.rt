@@ -1,110 +1,89 @@
-// The product of sums of a list, with a sum for each row: it is 1 exactly on the codes that no row matches. Each function writes into a lent buffer, from
-// place `at` on or from its front, and returns the place after what it wrote.
+// The product of sums of a list, with a sum for each row: it is 1 exactly on the codes that no row matches. Each function writes behind what its text has
+// already.
 //
-//     product::line(2, &[0], &[3], 1, &mut out)      // for the row 00: (x1+x2) and a line feed
+//     product::line::<MOST_LINE>(2, Rows { values: &[0], cares: &[3] })      // for the row 00: (x1+x2) and a line feed
 #![tactic(auto)]
 
-ghost use Rattle.std.specs.Prelude.{◌≡◌, ◌+◌, ◌≤◌, length};
-ghost use Rattle.cube.specs.Words.{first_rows};
-ghost use Rattle.cube.specs.Theorems.{Variable};
-ghost use Rattle.numbers.specs.Lent.{Puts};
-ghost use Rattle.text.specs.Output.{Prints};
+ghost use Rattle.std.specs.Prelude.{◌≡◌, ◌++◌, ◌+◌, ◌<◌, ◌≤◌, length};
+ghost use Rattle.arrayvec.specs.ArrayString.{array_string_len};
+ghost use Rattle.cube.specs.Words.{rows_of};
 ghost use Rattle.text.specs.Steps.{most_variables};
-ghost use Rattle.product.specs.Product.{literal_text, sum_text, literals_of_variable, row_sum, excluding_text, excluding_line};
-ghost use Rattle.product.specs.Steps.{text_behind, joint_at, PrintableLine};
+ghost use Rattle.product.specs.Product.{literal_text, sum_text, row_sum, excluding_text, excluding_line};
+ghost use Rattle.product.specs.Steps.{literal_of, last_character};
 
+use arrayvec::ArrayString;
+use cube::Row;
+use lists::Rows;
 use spelling::MOST_CODE_PAIRS;
 use text::output;
 
 // Room for any line at the widest width: a sum of 25 characters for each pair of codes, and the line feed.
 pub const MOST_LINE: usize = 25 * MOST_CODE_PAIRS + 1;
 
-// `xk`, or `xk'` where it is complemented.
-fn literal(k: usize, complemented: bool, out: &mut [u8], at: usize) -> usize
-    requires { (k ≤ most_variables) × (at + length (literal_text (record { variable = k; complemented = complemented })) ≤ length out.old) }
-    ensures { Puts (literal_text (record { variable = k; complemented = complemented })) out.old at out.new result }
+// The literal of variable xk where its bit is tested: `xk` for a tested 0, `xk'` for a tested 1.
+fn literal<const N: usize>(k: usize, one: bool, out: &mut ArrayString<N>)
+    requires { array_string_len out.old + length (literal_text (literal_of k one)) ≤ N }
+    ensures { out.new.bytes ≡ out.old.bytes ++ literal_text (literal_of k one) }
 {
-    let name = output::byte(b'x', out, at);
-    let next = output::digit(k, out, name);
-    if complemented {
-        return output::byte(b'\'', out, next);
+    out.push('x');
+    output::number(k, out);
+    if one {
+        out.push('\'');
     }
-    next
 }
 
-// What is before a literal: a bracket where the sum starts, and a plus sign behind another literal.
-fn joint(start: usize, at: usize) -> u8
-    ensures { result ≡ joint_at start at }
+// The last character of a sum, where this one would be before its next literal.
+fn last(before: char) -> char
+    ensures value { result ≡ last_character before }
+    ensures ascii { result < 128 }
 {
-    if at == start {
-        return b'(';
-    }
-    b'+'
+    if before == '(' { '0' } else { ')' }
 }
 
-// The literal of variable xk in the sum that starts at place `start`; nothing where the row does not test xk.
-fn variable(
-    n: usize,
-    k: usize,
-    value: u8,
-    care: u8,
-    start: usize,
-    out: &mut [u8],
-    at: usize,
-) -> usize
-    requires { (n ≤ most_variables) × Variable n k
-        × (at + length (text_behind (joint_at start at) (literals_of_variable n (record { value = value; care = care }) k)) ≤ length out.old) }
-    ensures { Puts (text_behind (joint_at start at) (literals_of_variable n (record { value = value; care = care }) k))
-        out.old at out.new result }
+// The sum of a row, x1 first. A bracket is before its first literal, and a plus sign before each further one.
+fn sum<const N: usize>(n: usize, row: Row, out: &mut ArrayString<N>)
+    requires width { n ≤ most_variables }
+    requires room { array_string_len out.old + length (sum_text (row_sum n row)) ≤ N }
+    ensures { out.new.bytes ≡ out.old.bytes ++ sum_text (row_sum n row) }
 {
-    let d = output::row_digit(n, k, value, care);
-    if d == 2 {
-        return at;
+    let mut before = '(';
+    for i in 0..n {
+        if let Some(one) = output::tested(n, i + 1, row) {
+            out.push(before);
+            literal(i + 1, one, out);
+            before = '+';
+        }
     }
-    let next = output::byte(joint(start, at), out, at);
-    literal(k, d == 1, out, next)
+    out.push(last(before));
 }
 
-// The sum of a row, x1 first.
-fn sum(n: usize, value: u8, care: u8, out: &mut [u8], at: usize) -> usize
-    requires { (n ≤ most_variables) × (at + length (sum_text (row_sum n (record { value = value; care = care }))) ≤ length out.old) }
-    ensures { Puts (sum_text (row_sum n (record { value = value; care = care }))) out.old at out.new result }
+// The sums of a list; 1 where there is no row.
+fn sums<const N: usize>(n: usize, rows: Rows, out: &mut ArrayString<N>)
+    requires width { n ≤ most_variables }
+    requires room { array_string_len out.old + length (excluding_text n (rows_of rows.values.now rows.cares.now)) ≤ N }
+    ensures { out.new.bytes ≡ out.old.bytes ++ excluding_text n (rows_of rows.entry.values.now rows.entry.cares.now) }
 {
-    let mut place = at;
-    let mut i = 0;
-    while i < n {
-        place = variable(n, i + 1, value, care, at, out, place);
-        i += 1;
+    if rows.values.is_empty() {
+        out.push_str("1");
+        return;
     }
-    if place == at {
-        return output::byte(b'0', out, place);
+    for (value, care) in rows.values.iter().zip(rows.cares) {
+        let row = Row {
+            value: *value,
+            care: *care,
+        };
+        sum(n, row, out);
     }
-    output::byte(b')', out, place)
 }
 
-// The sums of the first rows of two arrays, from the front of the buffer on; 1 where there is no row.
-fn sums(n: usize, values: &[u8], cares: &[u8], count: usize, out: &mut [u8]) -> usize
-    requires { PrintableLine n values.now cares.now count out.old }
-    ensures { Puts (excluding_text n (first_rows count values.now cares.now))
-        out.old 0 out.new result }
+// What is printed for a list: its product of sums on one line.
+pub fn line<const N: usize>(n: usize, rows: Rows) -> ArrayString<N>
+    requires width { n ≤ most_variables }
+    requires room { length (excluding_line n (rows_of rows.values.now rows.cares.now)) ≤ N }
+    ensures { result.bytes ≡ excluding_line n (rows_of rows.entry.values.now rows.entry.cares.now) }
 {
-    if count == 0 {
-        return output::byte(b'1', out, 0);
-    }
-    let mut place = 0;
-    let mut i = 0;
-    while i < count {
-        place = sum(n, values[i], cares[i], out, place);
-        i += 1;
-    }
-    place
-}
-
-// What is printed for a list: its product of sums on one line. Returns the length.
-pub fn line(n: usize, values: &[u8], cares: &[u8], count: usize, out: &mut [u8]) -> usize
-    requires { PrintableLine n values.now cares.now count out.old }
-    ensures { Prints (excluding_line n (first_rows count values.now cares.now)) out.old out.new result }
-{
-    let at = sums(n, values, cares, count, out);
-    output::line_feed(out, at)
+    let mut out = ArrayString::new();
+    sums(n, rows, &mut out);
+    out.push('\n');
+    out
 }

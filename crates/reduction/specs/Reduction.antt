@@ -1,11 +1,10 @@
 -- What the reductions of a covering problem on slices promise: a lightest cover of what is left, with the rows taken, is a lightest cover of the whole.
 -- Definitions only. Assumes nothing.
-use Rattle.std.specs.Prelude.{List, ℕ, ◌+◌, ◌*◌, ◌≤◌}
-use Rattle.covering.specs.Weighted.{set_size}
+use Rattle.std.specs.Prelude.{List, ℕ}
 use Rattle.covering.specs.Search.{Reduced, none}
 use Rattle.matrix.specs.Sets.{ColumnSet, RowSet, row_limit, In, member, Member}
-use Rattle.matrix.specs.Matrix.{CoversColumn, weight_of, weight_limit}
-use Rattle.reduction.specs.declared.Remaining.{Remaining}
+use Rattle.matrix.specs.Matrix.{CoversColumn, weight_of}
+use Rattle.reduction.specs.declared.remaining.Remaining.{Remaining}
 
 -- the rows live and the columns u come down to live' and u', and nothing is taken
 abbrev pub Keeps : List ℕ → List ℕ → RowSet → ColumnSet → RowSet → ColumnSet → Type 0
@@ -15,12 +14,3 @@ Keeps words weights live u live' u' = Reduced (CoversColumn words) (weight_of we
 abbrev pub Reduces : List ℕ → List ℕ → RowSet → ColumnSet → Remaining → Type 0
 Reduces words weights live u s =
     Reduced (CoversColumn words) (weight_of weights) row_limit (Member live) (In u) (Member s.live) (In s.undecided) (member s.taken) s.cost
-
--- what the rows taken weigh, and `weight_limit` for each live row, are together at most `row_limit * weight_limit`
-abbrev pub CostBounded : Remaining → Type 0
-CostBounded s = s.cost + set_size row_limit (member s.live) * weight_limit ≤ row_limit * weight_limit
-
--- what a whole reduction leaves
-pub record ReducedTo (words weights : List ℕ) (live : RowSet) (u : ColumnSet) (s : Remaining) : Type 0 where
-  pub reduced : Reduces words weights live u s
-  pub room : CostBounded s

@@ -1,9 +1,9 @@
 -- The steps of a reduction on slices: what each function of a round asks and shows. Definitions only. Assumes nothing.
-use Rattle.std.specs.Prelude.{◌≡◌, List, not, ◌&&◌, ◌||◌, ℕ, ◌+◌, ◌≤◌, ◌<◌, eqb, get_or}
+use Rattle.std.specs.Prelude.{◌≡◌, List, ◌⊎◌, not, ◌&&◌, ◌||◌, ℕ, ◌+◌, ◌≤◌, ◌<◌, eqb, get_or}
 use Rattle.matrix.specs.Sets.{ColumnSet, RowSet, column_limit, has, In, member, Member}
-use Rattle.matrix.specs.Matrix.{Sizes, row_count, covered, CoversColumn, weight_of}
-use Rattle.reduction.specs.Reduction.{Reduces, CostBounded}
-use Rattle.reduction.specs.declared.Remaining.{Remaining}
+use Rattle.matrix.specs.Matrix.{row_count, covered, CoversColumn, weight_of}
+use Rattle.reduction.specs.Reduction.{Reduces}
+use Rattle.reduction.specs.declared.remaining.Remaining.{Remaining}
 
 -- ---- row dominance
 
@@ -14,6 +14,10 @@ pub record Dominates (words weights : List ℕ) (live : RowSet) (u : ColumnSet) 
   pub lives : Member live j
   pub light : weight_of weights j ≤ weight_of weights i
   pub inside : (c : ℕ) → In u c → CoversColumn words i c → CoversColumn words j c
+
+-- the row i covers no undecided column, or another one dominates it
+abbrev pub Droppable : List ℕ → List ℕ → RowSet → ColumnSet → ℕ → Type 0
+Droppable words weights live u i = ((c : ℕ) → In u c → CoversColumn words i c → ⊥) ⊎ ((j : ℕ) × Dominates words weights live u i j)
 
 -- ---- column dominance
 
@@ -40,17 +44,11 @@ pub record Narrowed (along : Companions) (row u : ColumnSet) (along' : Companion
 abbrev pub OneRow : List ℕ → RowSet → ℕ → Type 0
 OneRow words live c = (i j : ℕ) → Member live i → Member live j → CoversColumn words i c → CoversColumn words j c → i ≡ j
 
--- r is a live row that covers c, unless it is the number of rows
+-- r is a live row that covers c
 pub record RowFound (words : List ℕ) (live : RowSet) (c r : ℕ) : Type 0 where
-  pub within : r ≤ row_count words
-  pub here : r < row_count words → Member live r × CoversColumn words r c
-
--- the row r can be taken: it is a live one, and there is room for its weight
-pub record Takeable (words weights : List ℕ) (s : Remaining) (r : ℕ) : Type 0 where
-  pub sizes : Sizes words weights
   pub row : r < row_count words
-  pub lives : Member s.live r
-  pub room : CostBounded s
+  pub lives : Member live r
+  pub covers : CoversColumn words r c
 
 -- the row r is taken: it is no longer live, its columns are decided, and its weight is counted
 pub record RowTaken (words weights : List ℕ) (s : Remaining) (r : ℕ) (t : Remaining) : Type 0 where
@@ -58,19 +56,15 @@ pub record RowTaken (words weights : List ℕ) (s : Remaining) (r : ℕ) (t : Re
   pub undecided : (x : ℕ) → has t.undecided x ≡ (has s.undecided x && not (has (covered words r) x))
   pub taken : (j : ℕ) → member t.taken j ≡ (eqb j r || member s.taken j)
   pub cost : t.cost ≡ s.cost + weight_of weights r
-  pub room : CostBounded t
 
--- the column c has at most one live row, and there is room for its weight
-pub record Single (words weights : List ℕ) (s : Remaining) (c : ℕ) : Type 0 where
-  pub sizes : Sizes words weights
+-- the column c has at most one live row
+pub record Single (words : List ℕ) (live : RowSet) (c : ℕ) : Type 0 where
   pub column : c < column_limit
-  pub one : OneRow words s.live c
-  pub room : CostBounded s
+  pub one : OneRow words live c
 
 -- ---- from state to state
 
 -- From s on to t: no more rows are live, and whatever came down to s comes down to t.
 pub record Onward (words weights : List ℕ) (s t : Remaining) : Type 0 where
   pub fewer : (i : ℕ) → Member t.live i → Member s.live i
-  pub room : CostBounded t
   pub reduced : (live : RowSet) (u : ColumnSet) → Reduces words weights live u s → Reduces words weights live u t

@@ -1,11 +1,10 @@
 // Column dominance: a column is dropped when another column's rows all cover it too. Of equal columns one stays.
-ghost use Rattle.std.specs.Prelude.{List, ℕ, ◌≤◌};
-ghost use Rattle.matrix.specs.Sets.{row_limit};
+ghost use Rattle.std.specs.Prelude.{List, ℕ};
 ghost use Rattle.matrix.specs.Matrix.{row_count};
 ghost use Rattle.reduction.specs.Reduction.{Keeps};
 ghost use Rattle.reduction.specs.Steps.{Along, Narrowed};
 
-use matrix::{columns, rows};
+use matrix::{Subproblem, columns};
 
 // A set of columns for each column: its companions, which come along with it.
 type Companions = [columns::Set; columns::LIMIT];
@@ -14,40 +13,33 @@ type Companions = [columns::Set; columns::LIMIT];
 fn narrow(along: &mut Companions, row: columns::Set, undecided: columns::Set)
     ensures { Narrowed along.old row undecided along.new }
 {
-    let set = columns::both(row, undecided);
-    let mut c = columns::next(set, 0);
-    while c < columns::LIMIT {
-        along[c] = columns::both(along[c], row);
-        c = columns::next(set, c + 1);
+    let set = row & undecided;
+    for c in set {
+        along[c] = along[c] & row;
     }
 }
 
 // For each undecided column, the columns that every live row covering it covers too.
-fn come_along(words: &[u64], live: &rows::Set, undecided: columns::Set) -> Companions
-    requires { row_count words.now ≤ row_limit }
-    ensures { Along words.now live.now undecided (row_count words.now) result }
+fn come_along(problem: &Subproblem) -> Companions
+    ensures { let p = problem.now in Along p.matrix.words.now p.live.now p.undecided (row_count p.matrix.words.now) result }
 {
     let mut along = [columns::ALL; columns::LIMIT];
-    let end = matrix::row_count(words);
-    let mut i = rows::next(live, 0, end);
-    while i < end {
-        narrow(&mut along, matrix::covered(words, i), undecided);
-        i = rows::next(live, i + 1, end);
+    for i in problem.live.iter(problem.matrix.rows()) {
+        narrow(&mut along, problem.matrix.columns_of(i), problem.undecided);
     }
     along
 }
 
 // The undecided columns without those that another one brings along.
-pub fn drop_columns(words: &[u64], live: &rows::Set, undecided: columns::Set) -> columns::Set
-    requires { row_count words.now ≤ row_limit }
-    ensures { (weights : List ℕ) → Keeps words.now weights live.now undecided live.now result }
+pub fn drop_columns(problem: &Subproblem) -> columns::Set
+    ensures { let p = problem.now in (weights : List ℕ) → Keeps p.matrix.words.now weights p.live.now p.undecided p.live.now result }
 {
-    let along = come_along(words, live, undecided);
-    let mut kept = undecided;
-    let mut d = columns::next(kept, 0);
-    while d < columns::LIMIT {
-        kept = columns::without(kept, columns::without(along[d], columns::only(d)));
-        d = columns::next(kept, d + 1);
+    let along = come_along(problem);
+    let mut kept = problem.undecided;
+    for d in problem.undecided {
+        if kept.contains(d) {
+            kept = kept - (along[d] - columns::Set::only(d));
+        }
     }
     kept
 }

@@ -1,4 +1,2 @@
--- What the loops of the search keep, and what its answers follow from.
-pub mod RowsSeen
-pub mod Greedily
+-- What the answers of the search follow from.
 pub mod Branches

@@ -1,38 +1,41 @@
-// Spell: the row of a cube, from the table of 729 value and care pairs (values.rt, cares.rt). The powers of two and of
-// three are here too; all other code takes them from here, for bits, for cube digits and for the number of codes and cubes of a width.
+// Spell: the row of a cube, from the table of 729 rows (rows.rt). The powers of two and of three are here too; all other code takes them from
+// here, for bits, for cube digits and for the number of codes and cubes of a width.
 //
 //     spelling::spell(4, 53)      // digits 1 2 2 2: value 8, care 8
-#![tactic(auto)]
+#![tactic(auto, using(cube::proofs::Calls::refusals))]
 
-mod cares;
-mod values;
+mod rows;
 
-ghost use Rattle.std.specs.Prelude.{◌≡◌, ◌<◌, ◌≤◌, ◌^◌};
-ghost use Rattle.cube.specs.Words.{digit as digitAt, value_of, care_of};
-ghost use Rattle.cube.specs.Calls.{widest, bad_width};
-ghost use Rattle.spelling.specs.Spell.{spell_of, spell_answer};
+ghost use Rattle.std.specs.Prelude.{◌≡◌, [], ◌∷◌, ◌<◌, ◌≤◌, ◌^◌, OnOk};
+ghost use Rattle.cube.specs.Words.{digit as digitAt, row_of};
+ghost use Rattle.cube.specs.Calls.{widest, bad_width, when, first_of, refusal_of, answer_of};
+ghost use Rattle.spelling.specs.Spell.{spell_refuses, spell_of};
+
+use cube::{Refusal, Row};
 
 // The widest mark.
 const WIDEST: usize = 6;
 
 // The codes, the pairs of codes and the cubes of the widest mark: the lengths of arrays that must suffice for every width. A shortest list has at
 // most a row for each pair of codes.
-pub const MOST_CODES: usize = 64;
+pub const MOST_CODES: usize = 1 << WIDEST;
 
-pub const MOST_CODE_PAIRS: usize = 32;
+pub const MOST_CODE_PAIRS: usize = MOST_CODES / 2;
 
 pub const MOST_CUBES: usize = 729;
 
-const POWERS_OF_THREE: [usize; 7] = [1, 3, 9, 27, 81, 243, 729];
+static POWERS_OF_THREE: [usize; WIDEST + 1] = [1, 3, 9, 27, 81, 243, 729];
 
-// Whether the width is outside 1 to 6.
-pub fn bad_width(n: usize) -> bool
-    ensures { result ≡ bad_width n }
+// Refuses a width outside 1 to 6.
+pub fn check_width(n: usize) -> Result<(), Refusal>
+    ensures refusal { refusal_of result ≡ first_of (when (bad_width n) 1 ∷ []) }
+    ensures width { OnOk result ((1 ≤ n) × (n ≤ widest)) }
 {
-    if n < 1 {
-        return true;
+    if (1..=WIDEST).contains(&n) {
+        Ok(())
+    } else {
+        Err(Refusal::Width)
     }
-    WIDEST < n
 }
 
 // The number of codes of n bits, and the weight of bit n of a code, counted from the last.
@@ -51,6 +54,19 @@ pub fn cubes(n: usize) -> usize
     POWERS_OF_THREE[n]
 }
 
+// Refuses a bad width, then a cube number that is not below 3^n.
+pub fn check_cube(n: usize, q: usize) -> Result<(), Refusal>
+    ensures refusal { refusal_of result ≡ spell_refuses n q }
+    ensures cube { OnOk result ((n ≤ widest) × (q < 3 ^ n)) }
+{
+    check_width(n)?;
+    if q < cubes(n) {
+        Ok(())
+    } else {
+        Err(Refusal::CubeNumber)
+    }
+}
+
 // Digit k of a cube, counted from the last.
 pub fn digit(q: usize, k: usize) -> usize
     requires { k ≤ widest }
@@ -59,38 +75,22 @@ pub fn digit(q: usize, k: usize) -> usize
     q / cubes(k) % 3
 }
 
-// The value of a cube of n digits: a cube number has the same value with zeros before it.
-pub fn value(n: usize, q: usize) -> u8
+// The row of a cube of n digits: with zeros before it a cube has the same value, and of the care the low n bits count.
+pub fn row(n: usize, q: usize) -> Row
     requires { (n ≤ widest) × (q < 3 ^ n) }
-    ensures { result ≡ value_of n q }
+    ensures { result ≡ row_of n q }
 {
-    values::of_six(q)
-}
-
-// The care of a cube of n digits: only the low n bits count.
-pub fn care(n: usize, q: usize) -> u8
-    requires { (n ≤ widest) × (q < 3 ^ n) }
-    ensures { result ≡ care_of n q }
-{
-    (cares::of_six(q) as usize % codes(n)) as u8
-}
-
-// A row, or the number of the refusal.
-#[derive(Drop)]
-pub enum Spelled {
-    Row(u8, u8),
-    Refused(u8),
-}
-
-// The value and the care that spell a cube, or the number of the refusal.
-pub fn spell(n: usize, q: usize) -> Spelled
-    ensures { spell_answer result ≡ spell_of n q }
-{
-    if bad_width(n) {
-        return Spelled::Refused(1);
+    let row = rows::of_six(q);
+    Row {
+        value: row.value,
+        care: (row.care as usize % codes(n)) as u8,
     }
-    if cubes(n) <= q {
-        return Spelled::Refused(8);
-    }
-    Spelled::Row(value(n, q), care(n, q))
+}
+
+// The row that spells a cube, or why there is none.
+pub fn spell(n: usize, q: usize) -> Result<Row, Refusal>
+    ensures { answer_of result ≡ spell_of n q }
+{
+    check_cube(n, q)?;
+    Ok(row(n, q))
 }

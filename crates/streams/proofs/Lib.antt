@@ -1,3 +1,2 @@
--- What the pieces make up, and what is handed over.
+-- What the pieces make up.
 pub mod Pieces
-pub mod Outputs

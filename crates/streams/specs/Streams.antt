@@ -1,5 +1,5 @@
 -- What a program hands to standard output: the whole output for some input. Nothing is known of the bytes that a read delivers, so the promise cannot
--- say which; the proof takes what the reads put into their buffer, one piece after another. For a given text in memory `PrintsInput`, of `text`, says it.
+-- say which; the proof takes what the reads put into their buffer, one piece after another. For a given text in memory `ProgramOutput`, of `text`, says it.
 -- Assumes nothing.
 use Rattle.std.specs.Prelude.{List, ℕ}
 

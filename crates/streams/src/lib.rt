@@ -1,70 +1,77 @@
-// A program's input, read to its end and fed to the grammar; and its output.
+// A program's input, read to its end and fed to the grammar; and its output. A program of `text` is run by
 //
-//     let reading = streams::read_all(&mut rt.stdin(), &mut cells);     // what was read, with the cells that are kept in the buffer
-//     streams::hand_over(&mut rt.stdout(), &mut rt.stderr(), &out[..length], b"writing failed\n");
-//                                                     // the output, or on standard error that it was not taken
+//     let text = streams::answer::<Rows, _, MOST_OUTPUT>(&mut rt.stdin());
+//     streams::send::<Rows, _, _, MOST_OUTPUT>(&mut rt.stdout(), &mut rt.stderr(), text.as_bytes(), b"writing failed\n");
 #![tactic(auto)]
 
-ghost use Rattle.std.specs.Prelude.{length, ◌≤◌};
 ghost use Rattle.std.specs.Io.{ReadsAtMost};
-ghost use Rattle.text.specs.Steps.{most_cells, Room};
+ghost use Rattle.text.specs.Output.{ProgramOutput};
+ghost use Rattle.streams.specs.Streams.{WholeOutput};
 ghost use Rattle.streams.specs.Steps.{Turned, ReadAll};
 
-use std::io;
-use std::io::{Read, Write};
-use text::input::Reading;
+use arrayvec::ArrayString;
+use std::io::{self, Read, Write};
+use std::ops::ControlFlow;
+use text::input::Reader;
+use text::program::{self, Program};
 
 // How many bytes a read may bring.
 const PIECE: usize = 65536;
 
-// What a read leads to: there may be more, or this is all.
-#[derive(Drop)]
-enum Turn {
-    More(Reading),
-    Last(Reading),
-}
-
-// What a read that answered `got` leads to: this many bytes were put at the start of the piece. A read that fails does not pass for the
+// Takes what a read that answered `got` put at the start of the piece; where it brought nothing, the input ends. A read that fails does not pass for the
 // end of the input: the text is then not in form.
-fn take_turn(reading: Reading, cells: &mut [u8], piece: &[u8], got: io::Result<usize>) -> Turn
-    requires room { Room reading cells.old }
-    requires bound { ReadsAtMost got piece.now }
-    ensures { Turned reading cells.old got piece.now result cells.new }
+#[tactic(auto, unfolding(text::specs::Steps::fed))]
+fn take_turn(reader: &mut Reader, piece: &[u8], got: io::Result<usize>) -> ControlFlow<()>
+    requires { ReadsAtMost got piece.now }
+    ensures { Turned reader.old got piece.now result reader.new }
 {
     match got {
-        Err(_) => Turn::Last(Reading::Wrong),
-        Ok(0) => Turn::Last(reading),
-        Ok(n) => Turn::More(text::input::feed(reading, cells, &piece[..n])),
+        Err(_) => {
+            reader.fail();
+            ControlFlow::Break(())
+        }
+        Ok(0) => ControlFlow::Break(()),
+        Ok(n) => {
+            reader.feed(&piece[..n]);
+            ControlFlow::Continue(())
+        }
     }
 }
 
 // Reads to the end. The count of turns makes the loop end; it never runs out.
-pub fn read_all<R: Read>(input: &mut R, cells: &mut [u8]) -> Reading
-    requires { most_cells ≤ length cells.old }
-    ensures { ReadAll result cells.old cells.new }
+pub fn read_all<R: Read>(input: &mut R) -> Reader
+    ensures { ReadAll result }
 {
     let mut piece = [0u8; PIECE];
-    let mut reading = Reading::Start;
-    let mut turns = u64::MAX;
-    while turns > 0 {
+    let mut reader = Reader::new();
+    for _ in 0..u64::MAX {
         let got = input.read(&mut piece);
-        match take_turn(reading, cells, &piece, got) {
-            Turn::More(next) => {
-                reading = next;
-            }
-            Turn::Last(last) => {
-                return last;
-            }
+        if take_turn(&mut reader, &piece, got).is_break() {
+            return reader;
         }
-        turns -= 1;
     }
-    Reading::Wrong
+    reader.fail();
+    reader
 }
 
-// Hands a text to the output. Where a write fails, writes the complaint to the other.
-pub fn hand_over<O: Write, E: Write>(output: &mut O, other: &mut E, text: &[u8], complaint: &[u8]) {
-    if output.write_all(text).is_ok() {
-        return;
+// What a program prints for its input.
+pub fn answer<P: Program<N>, R: Read, const N: usize>(input: &mut R) -> ArrayString<N>
+    ensures { WholeOutput (ProgramOutput P.shown P.May) result.bytes }
+{
+    program::reply::<P, N>(&read_all(input))
+}
+
+// Hands the whole output of a program to the first writer, standard output; nothing else is handed there. Where a write fails, says so on the other, standard
+// error.
+pub fn send<P: Program<N>, O: Write, E: Write, const N: usize>(
+    output: &mut O,
+    other: &mut E,
+    text: &[u8],
+    complaint: &[u8],
+)
+    requires { WholeOutput (ProgramOutput P.shown P.May) text.now }
+{
+    if output.write_all(text).is_err() {
+        let _ = other.write_all(complaint);
     }
-    let _ = other.write_all(complaint);
 }

@@ -1,50 +1,25 @@
 -- Images of rows by an exchange of columns: where every live row has one, a row is of one orbit with its image, so a set of rows of an orbit grows by the rows
 -- whose images are in it. Rows past the last one cover nothing and are their own images. Assumes nothing.
-use mathlib.Core.Path.{◌≡◌, refl, sym, subst, ◌∙◌}
-use mathlib.Core.List.{List}
-use mathlib.Core.Logic.{◌⊎◌, inl, inr, ⊎_elim}
-use mathlib.Core.Bool.{false, ◌&&◌, ◌||◌}
-use Prim.Native.Nat.{ℕ, ◌+◌, ◌≤◌, ◌<◌}
-use native.Mathlib.Decide.{dec_lt}
+use mathlib.Core.Path.{◌≡◌, sym, subst, ◌∙◌}
+use mathlib.Core.List.{List, [], ◌∷◌, ◌++◌}
+use mathlib.Core.Logic.{◌⊎◌, inr, ⊎_elim}
+use mathlib.Core.Bool.{◌||◌}
+use Prim.Native.Nat.{ℕ, ◌<◌}
+use native.Mathlib.Decide.{dec_lt, ℕ_discrete}
 use native.Mathlib.Omega.{arith}
 use lib.Dec.{eqb}
-use borrow.Author.Tests.{eq-eqb, eqb-true}
-use Rattle.numbers.proofs.Flags.{clash, either_of, left_of, right_of, of_both}
+use borrow.Author.Tests.{eqb-true}
+use Rattle.numbers.proofs.Flags.{clash, either_of, right_of}
+use Rattle.numbers.specs.Ascending.{passed}
+use Rattle.numbers.proofs.Loops.{Turn}
 use Rattle.covering.proofs.Exchanges.{ImageBy, exchanged}
-use Rattle.matrix.specs.Sets.{ColumnSet, RowSet, has, In, member, Member, Next}
-use Rattle.matrix.specs.Matrix.{row_count, covered, CoversColumn, weight_of}
-use Rattle.matrix.proofs.Walks.{all_first, all_turn}
+use Rattle.matrix.specs.Sets.{ColumnSet, RowSet, In, member, Member}
+use Rattle.matrix.specs.Matrix.{row_count, CoversColumn, weight_of}
 use Rattle.matrix.proofs.Without.{covers_past}
-use Rattle.symmetry.specs.Symmetry.{LowWith, Orbit}
-use Rattle.symmetry.specs.Steps.{partner, StandsIn, Image, Grown}
+use Rattle.symmetry.specs.Steps.{partner, Image, Grown}
 use Rattle.symmetry.specs.declared.exchanges.Exchange.{Exchange}
 
-module _ {words weights : List ℕ} {live : RowSet} {u : ColumnSet} where
-  -- the orbit of a row begins with the row alone
-  pub orbit_one : {r : ℕ} (empty found : RowSet) → Member live r → ((i : ℕ) → member empty i ≡ false) → ((i : ℕ) → member found i ≡ (eqb i r || member empty i))
-      → Orbit words weights live u r found
-  orbit_one {r} empty found a none f = record {
-    itself = left_of (eqb r r) (member empty r) (f r) (eq-eqb r r refl);
-    lives = λ i h. subst (Member live) (sym (same i h)) a;
-    low = λ i h k b. subst (λ (x : ℕ). LowWith words weights live u x k) (sym (same i h)) b;
-  }
-    where
-      same : (i : ℕ) → Member found i → i ≡ r
-      same i h = ⊎_elim (eqb-true i r) (λ x. clash x (none i)) (either_of (eqb i r) (member empty i) (sym (f i) ∙ h))
-
-  -- a set of rows that grows by nothing, and by two steps
-  pub grown_none : (found : RowSet) → Grown words weights live u found found
-  grown_none found = record { kept = λ i h. h; orbit = λ r o. o }
-
-  pub grown_then : {found more last : RowSet} → Grown words weights live u found more → Grown words weights live u more last → Grown words weights live u found last
-  grown_then f g = record { kept = λ i h. g.kept i (f.kept i h); orbit = λ r o. g.orbit r (f.orbit r o) }
-
 module _ (words weights : List ℕ) (live : RowSet) (u : ColumnSet) (e : Exchange) where
-  -- the row j covers what i covers after the exchange
-  pub image_of : {i j set : ℕ} (moved : ℕ) → ((c : ℕ) → has moved c ≡ has (covered words i) (partner e c)) → ((c : ℕ) → has set c ≡ (has moved c && has u c))
-      → StandsIn words weights live set i j → Image words weights live u e i j
-  image_of moved f g s = record { lives = s.lives; light = s.light; covers = λ c v h. s.inside c (of_both (g c) (f c ∙ h) v) }
-
   -- ---- the live rows passed in turn
 
   abbrev pub HasImage : ℕ → Type 0
@@ -60,33 +35,38 @@ module _ (words weights : List ℕ) (live : RowSet) (u : ColumnSet) (e : Exchang
     pub kept : (m : ℕ) → Member found m → Member more m
     pub new : (m : ℕ) → Member more m → Member found m ⊎ Taken found m
 
-  pub passed_none : {found : RowSet} {end r : ℕ} → Next (member live) 0 end r → Passed found found r
-  passed_none n = record { images = all_first (member live) HasImage n; kept = λ m h. h; new = λ m h. inl h }
+  module _ {found more : RowSet} {n : ℕ} {ys : List ℕ} {i j : ℕ} (image : Image words weights live u e i j) (turn : Turn n (member live) ys i) (p : Passed found more (passed ys)) where
+    images_more : (m : ℕ) → m < passed (ys ++ i ∷ []) → Member live m → HasImage m
+    images_more m l a = go (dec_lt m (passed ys)) (ℕ_discrete m i)
+      where
+        go : Dec (m < passed ys) → Dec (m ≡ i) → HasImage m
+        go (yes k) d = p.images m k a
+        go (no k) (yes d) = subst HasImage (sym d) (j, image)
+        go (no k) (no d) = clash a (turn.between m (omega arith) (omega (arith, turn.comes)))
 
-  module _ {found more more' : RowSet} {end r i j : ℕ} (image : Image words weights live u e i j) (next : Next (member live) (i + 1) end r) (p : Passed found more i) where
     -- the image of the row i is one of the rows found
-    pub passed_found : Member live i → Member found j → ((m : ℕ) → member more' m ≡ (eqb m i || member more m)) → Passed found more' r
-    passed_found a h f = record {
-      images = all_turn (member live) HasImage i p.images (j, image) next;
+    pub passed_found : {more' : RowSet} → Member found j → ((m : ℕ) → member more' m ≡ (eqb m i || member more m)) → Passed found more' (passed (ys ++ i ∷ []))
+    passed_found h f = record {
+      images = images_more;
       kept = λ m k. right_of (eqb m i) (member more m) (f m) (p.kept m k);
-      new = λ m k. ⊎_elim (λ x. inr (subst (Taken found) (sym (eqb-true m i x)) (j, a, image, h))) (p.new m) (either_of (eqb m i) (member more m) (sym (f m) ∙ k));
+      new = λ m k. ⊎_elim (λ x. inr (subst (Taken found) (sym (eqb-true m i x)) (j, turn.here, image, h))) (p.new m) (either_of (eqb m i) (member more m) (sym (f m) ∙ k));
     }
 
     -- it is another
-    pub passed_other : more' ≡ more → Passed found more' r
-    passed_other d = rw d (record { images = all_turn (member live) HasImage i p.images (j, image) next; kept = p.kept; new = p.new })
+    pub passed_other : Passed found more (passed (ys ++ i ∷ []))
+    passed_other = record { images = images_more; kept = p.kept; new = p.new }
 
   -- ---- all live rows
 
-  module _ (into : (c : ℕ) → In u c → In u (partner e c)) {found more : RowSet} {n : ℕ} (end : row_count words ≤ n) (p : Passed found more n) where
+  module _ (into : (c : ℕ) → In u c → In u (partner e c)) {found more : RowSet} {n : ℕ} (all : (i : ℕ) → i < row_count words → Member live i → i < n) (p : Passed found more n) where
     by : {i j : ℕ} → Image words weights live u e i j → ImageBy (CoversColumn words) (weight_of weights) (Member live) (In u) (partner e) i j
     by x = record { lives = x.lives; light = x.light; covers = x.covers }
 
     every : (i : ℕ) → Member live i → (j : ℕ) × ImageBy (CoversColumn words) (weight_of weights) (Member live) (In u) (partner e) i j
-    every i a = go (dec_lt i n)
+    every i a = go (dec_lt i (row_count words))
       where
-        go : Dec (i < n) → (j : ℕ) × ImageBy (CoversColumn words) (weight_of weights) (Member live) (In u) (partner e) i j
-        go (yes l) = let x = p.images i l a in (x.0, by x.1)
+        go : Dec (i < row_count words) → (j : ℕ) × ImageBy (CoversColumn words) (weight_of weights) (Member live) (In u) (partner e) i j
+        go (yes l) = let x = p.images i (all i l a) a in (x.0, by x.1)
         go (no l) = (i, record { lives = a; light = omega arith; covers = λ c v h. absurd (covers_past words i (partner e c) (omega arith) h) })
 
     pub grown_all : Grown words weights live u found more

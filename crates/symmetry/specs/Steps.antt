@@ -1,24 +1,12 @@
 -- The steps to an orbit on slices: an exchange of columns, a row's image by it, and a set of rows grown by an exchange. An image weighs no more and covers what
 -- the row covers after the exchange, and no more is asked of a symmetry. Definitions only. Assumes nothing.
-use Rattle.std.specs.Prelude.{List, cond, ℕ, ◌+◌, ◌-◌, ◌*◌, ◌≤◌, ◌<◌}
-use Rattle.matrix.specs.Sets.{ColumnSet, RowSet, column_limit, has, has_raised, In, Member}
+use Rattle.std.specs.Prelude.{List, cond, ℕ, ◌+◌, ◌-◌, ◌≤◌}
+use Rattle.matrix.specs.Sets.{ColumnSet, RowSet, has, has_raised, In, Member}
 use Rattle.matrix.specs.Matrix.{CoversColumn, weight_of}
 use Rattle.symmetry.specs.Symmetry.{Orbit}
 use Rattle.symmetry.specs.declared.exchanges.Exchange.{Exchange}
 
 -- ---- an exchange of columns
-
--- column numbers have this many bits, the variables
-abbrev pub variables : ℕ
-variables = 6
-
--- and so many exchanges are tried
-abbrev pub exchange_count : ℕ
-exchange_count = variables * variables
-
--- the distance of an exchange is one between columns
-abbrev pub Near : Exchange → Type 0
-Near e = e.distance < column_limit
 
 -- The column that c changes places with: d lower where that is one of `low`, else d higher where c is one of `low`, else c.
 unfoldable pub partner : Exchange → ℕ → ℕ

@@ -2,18 +2,14 @@
 // complement both. Which these are is a heuristic: whoever uses one checks that it keeps what is left.
 ghost use Rattle.std.specs.Prelude.{◌≡◌, ℕ, ◌*◌, ◌^◌, ◌≤◌, ◌<◌};
 ghost use Rattle.matrix.specs.Sets.{column_limit, has};
-ghost use Rattle.symmetry.specs.Steps.{variables, exchange_count, Near, partner};
 
 use matrix::columns;
 
 // The bits of a column's number.
-const VARIABLES: usize = 6;
+pub const VARIABLES: usize = 6;
 
-// How many exchanges are tried.
-pub const COUNT: usize = VARIABLES * VARIABLES;
-
-// The columns in which each variable is set.
-const SET_IN: [columns::Set; VARIABLES] = [
+// The columns in which each variable is set. Kept as words: a constant cannot call the function that makes a set of one.
+const SET_IN: [u64; VARIABLES] = [
     0xaaaaaaaaaaaaaaaa,
     0xcccccccccccccccc,
     0xf0f0f0f0f0f0f0f0,
@@ -27,52 +23,52 @@ const SET_IN: [columns::Set; VARIABLES] = [
 pub struct Exchange {
     pub low: columns::Set,
     pub distance: usize,
+    ghost near: { distance < column_limit },
 }
 
 // What a variable adds to a column's number.
 fn value(a: usize) -> usize
-    requires { a < variables }
+    requires { a < VARIABLES }
     ensures { (result ≡ 2 ^ a) × (2 * result ≤ column_limit) }
 {
     1 << a
 }
 
-// The k-th exchange, for k = 6 a + b: the variable a complemented where b is a too, a and b swapped where a is lower, and swapped and complemented where b is.
-pub fn at(k: usize) -> Exchange
-    requires { k < exchange_count }
-    ensures { Near result }
-{
-    let a = k / VARIABLES;
-    let b = k % VARIABLES;
-    if a < b {
-        return Exchange {
-            low: columns::without(SET_IN[a], SET_IN[b]),
-            distance: value(b) - value(a),
-        };
-    }
-    let low = columns::without(columns::ALL, columns::either(SET_IN[a], SET_IN[b]));
-    if a == b {
-        return Exchange {
-            low,
-            distance: value(a),
-        };
-    }
-    Exchange {
-        low,
-        distance: value(a) + value(b),
-    }
-}
+impl Exchange {
+    ghost use Rattle.symmetry.specs.Steps.{partner};
 
-// The columns whose partners are in the set.
-pub fn exchanged(exchange: Exchange, set: columns::Set) -> columns::Set
-    requires { Near exchange }
-    ensures { (c : ℕ) → has result c ≡ has set (partner exchange c) }
-{
-    let low = exchange.low;
-    let distance = exchange.distance;
-    let high = columns::raised(low, distance);
-    let up = columns::both(columns::raised(set, distance), high);
-    let down = columns::both(columns::lowered(set, distance), columns::without(low, high));
-    let moved = columns::either(up, down);
-    columns::either(moved, columns::without(set, columns::either(low, high)))
+    // The exchange of two variables: a complemented where b is a too, a and b swapped where a is lower, and swapped and complemented where b is.
+    pub fn of(a: usize, b: usize) -> Exchange
+        requires { (a < VARIABLES) × (b < VARIABLES) }
+    {
+        let in_a = columns::Set::from(SET_IN[a]);
+        let in_b = columns::Set::from(SET_IN[b]);
+        if a < b {
+            return Exchange {
+                low: in_a - in_b,
+                distance: value(b) - value(a),
+            };
+        }
+        let low = columns::ALL - (in_a | in_b);
+        if a == b {
+            return Exchange {
+                low,
+                distance: value(a),
+            };
+        }
+        Exchange {
+            low,
+            distance: value(a) + value(b),
+        }
+    }
+
+    // The columns whose partners are in the set.
+    pub fn of_set(self, set: columns::Set) -> columns::Set
+        ensures { (c : ℕ) → has result c ≡ has set (partner self c) }
+    {
+        let high = self.low << self.distance;
+        let up = (set << self.distance) & high;
+        let down = (set >> self.distance) & (self.low - high);
+        up | down | (set - (self.low | high))
+    }
 }

@@ -1,70 +1,50 @@
 // Images of rows by an exchange of columns: a live row that weighs no more and covers what the row covers after the exchange.
-ghost use Rattle.std.specs.Prelude.{◌≡◌, true, ◌<◌};
-ghost use Rattle.matrix.specs.Matrix.{Sizes, row_count};
-ghost use Rattle.symmetry.specs.Steps.{Near, StandsIn, Image};
+ghost use Rattle.std.specs.Prelude.{◌≡◌, true, ◌<◌, IfSome};
+ghost use Rattle.matrix.specs.Matrix.{row_count};
+ghost use Rattle.symmetry.specs.Steps.{StandsIn, Image};
 
-use crate::exchanges;
-use matrix::{columns, rows, transposed};
+use crate::exchanges::Exchange;
+use matrix::transposed::ByColumn;
+use matrix::{Matrix, Subproblem, columns, rows};
 
 // Whether the row j is a live row that weighs no more than i and covers the columns of a set.
-fn stands_in(
-    words: &[u64],
-    weights: &[u32],
-    live: &rows::Set,
-    set: columns::Set,
-    i: usize,
-    j: usize,
-) -> bool
-    requires { Sizes words.now weights.now × (i < row_count words.now) × (j < row_count words.now) }
-    ensures { result ≡ true → StandsIn words.now weights.now live.now set i j }
+fn stands_in(matrix: Matrix, live: &rows::Set, set: columns::Set, i: usize, j: usize) -> bool
+    requires { (i < row_count matrix.words.now) × (j < row_count matrix.words.now) }
+    ensures { let m = matrix.entry in result ≡ true → StandsIn m.words.now m.weights.now live.now set i j }
 {
-    if !columns::inside(set, matrix::covered(words, j)) {
-        return false;
-    }
-    if weights[i] < weights[j] {
-        return false;
-    }
-    rows::has(live, j)
+    set.is_subset(matrix.columns_of(j)) && matrix.weight(j) <= matrix.weight(i) && live.contains(j)
 }
 
-// A row among the candidates that stands in for the row i with the columns of a set, or the number of rows where none does.
+// A row among the candidates that stands in for the row i with the columns of a set, if there is one.
+#[tactic(auto, using(numbers::proofs::Closures::asked))]
 fn stand_in(
-    words: &[u64],
-    weights: &[u32],
+    matrix: Matrix,
     live: &rows::Set,
     candidates: &rows::Set,
     set: columns::Set,
     i: usize,
-) -> usize
-    requires { Sizes words.now weights.now × (i < row_count words.now) }
-    ensures { result < row_count words.now → StandsIn words.now weights.now live.now set i result }
+) -> Option<usize>
+    requires { i < row_count matrix.words.now }
+    ensures { let m = matrix.entry in IfSome result (λ j. (j < row_count m.words.now) × StandsIn m.words.now m.weights.now live.now set i j) }
 {
-    let end = matrix::row_count(words);
-    let mut j = rows::next(candidates, 0, end);
-    while j < end {
-        if stands_in(words, weights, live, set, i, j) {
-            return j;
-        }
-        j = rows::next(candidates, j + 1, end);
-    }
-    j
+    candidates
+        .iter(matrix.rows())
+        .find(|&j| stands_in(matrix, live, set, i, j))
 }
 
-// An image of the row i by an exchange, or the number of rows where none is found.
+// An image of the row i by an exchange, if one is found.
 pub fn image(
-    words: &[u64],
-    weights: &[u32],
-    live: &rows::Set,
-    undecided: columns::Set,
-    by_column: &transposed::ByColumn,
-    exchange: exchanges::Exchange,
+    problem: &Subproblem,
+    by_column: &ByColumn,
+    exchange: &Exchange,
     i: usize,
-) -> usize
-    requires { Sizes words.now weights.now × (i < row_count words.now) × Near exchange }
-    ensures { result < row_count words.now → Image words.now weights.now live.now undecided exchange i result }
+) -> Option<usize>
+    requires { i < row_count problem.now.matrix.words.now }
+    ensures below { IfSome result (λ j. j < row_count problem.now.matrix.words.now) }
+    ensures image { let p = problem.now in IfSome result (λ j. Image p.matrix.words.now p.matrix.weights.now p.live.now p.undecided exchange.now i j) }
 {
-    let moved = exchanges::exchanged(exchange, matrix::covered(words, i));
-    let set = columns::both(moved, undecided);
-    let first = columns::next(set, 0) % columns::LIMIT;
-    stand_in(words, weights, live, &by_column[first], set, i)
+    let matrix = problem.matrix;
+    let set = exchange.of_set(matrix.columns_of(i)) & problem.undecided;
+    let candidates = by_column.at(set.first().unwrap_or(0));
+    stand_in(matrix, problem.live, candidates, set, i)
 }

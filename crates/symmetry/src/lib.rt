@@ -6,101 +6,70 @@
 
 ghost use Rattle.std.specs.Prelude.{◌<◌};
 ghost use Rattle.matrix.specs.Sets.{Member};
-ghost use Rattle.matrix.specs.Matrix.{Sizes, row_count};
+ghost use Rattle.matrix.specs.Matrix.{row_count};
 ghost use Rattle.symmetry.specs.Symmetry.{Orbit};
-ghost use Rattle.symmetry.specs.Steps.{Near, Grown};
+ghost use Rattle.symmetry.specs.Steps.{Grown};
 
-use exchanges::Exchange;
-use matrix::{columns, rows, transposed};
+use exchanges::{Exchange, VARIABLES};
+use matrix::transposed::ByColumn;
+use matrix::{Subproblem, rows};
 
 pub mod exchanges;
 pub mod images;
 
 // The rows found so far and the live rows that the exchange takes to one of them, or the rows found alone where it does not keep what is left.
 fn grown(
-    words: &[u64],
-    weights: &[u32],
-    live: &rows::Set,
-    undecided: columns::Set,
-    by_column: &transposed::ByColumn,
-    exchange: Exchange,
-    found: rows::Set,
+    problem: &Subproblem,
+    by_column: &ByColumn,
+    exchange: &Exchange,
+    found: &rows::Set,
 ) -> rows::Set
-    requires { Sizes words.now weights.now × Near exchange }
-    ensures { Grown words.now weights.now live.now undecided found result }
+    ensures { let p = problem.now in Grown p.matrix.words.now p.matrix.weights.now p.live.now p.undecided found.now result }
 {
-    if !columns::inside(undecided, exchanges::exchanged(exchange, undecided)) {
-        return found;
+    if !problem
+        .undecided
+        .is_subset(exchange.of_set(problem.undecided))
+    {
+        return *found;
     }
-    let end = matrix::row_count(words);
-    let mut more = found;
-    let mut i = rows::next(live, 0, end);
-    while i < end {
-        let j = images::image(words, weights, live, undecided, by_column, exchange, i);
-        if end <= j {
-            return found;
+    let mut more = *found;
+    for i in problem.live.iter(problem.matrix.rows()) {
+        let Some(j) = images::image(problem, by_column, exchange, i) else {
+            return *found;
+        };
+        if found.contains(j) {
+            more.insert(i);
         }
-        if rows::has(&found, j) {
-            let one_more = rows::with_row(more, i);
-            more = one_more;
-        }
-        i = rows::next(live, i + 1, end);
     }
     more
 }
 
 // The rows found so far, grown by one exchange after the other.
-fn grown_by_all(
-    words: &[u64],
-    weights: &[u32],
-    live: &rows::Set,
-    undecided: columns::Set,
-    by_column: &transposed::ByColumn,
-    found: rows::Set,
-) -> rows::Set
-    requires { Sizes words.now weights.now }
-    ensures { Grown words.now weights.now live.now undecided found result }
+fn grown_by_all(problem: &Subproblem, by_column: &ByColumn, found: &rows::Set) -> rows::Set
+    ensures { let p = problem.now in Grown p.matrix.words.now p.matrix.weights.now p.live.now p.undecided found.now result }
 {
-    let mut more = found;
-    let mut k: usize = 0;
-    while k < exchanges::COUNT {
-        let next = grown(
-            words,
-            weights,
-            live,
-            undecided,
-            by_column,
-            exchanges::at(k),
-            more,
-        );
-        more = next;
-        k += 1;
+    let mut more = *found;
+    for a in 0..VARIABLES {
+        for b in 0..VARIABLES {
+            more = grown(problem, by_column, &Exchange::of(a, b), &more);
+        }
     }
     more
 }
 
 // The live rows that exchanges take to the row r, and r: the exchanges are tried until they add no row.
-pub fn orbit(
-    words: &[u64],
-    weights: &[u32],
-    live: &rows::Set,
-    undecided: columns::Set,
-    by_column: &transposed::ByColumn,
-    r: usize,
-) -> rows::Set
-    requires { Sizes words.now weights.now × (r < row_count words.now) × Member live.now r }
-    ensures { Orbit words.now weights.now live.now undecided r result }
+pub fn orbit(problem: &Subproblem, by_column: &ByColumn, r: usize) -> rows::Set
+    requires { (r < row_count problem.now.matrix.words.now) × Member problem.now.live.now r }
+    ensures { let p = problem.now in Orbit p.matrix.words.now p.matrix.weights.now p.live.now p.undecided r result }
 {
-    let mut found = rows::with_row(rows::none(), r);
-    let end = matrix::row_count(words);
-    let mut size = rows::size(&found, end);
+    let end = problem.matrix.rows();
+    let mut found = rows::Set::none();
+    found.insert(r);
     loop {
-        let more = grown_by_all(words, weights, live, undecided, by_column, found);
-        let larger = rows::size(&more, end);
-        if larger == size {
+        let more = grown_by_all(problem, by_column, &found);
+        if more.len(end) == found.len(end) {
             return more;
         }
         found = more;
-        size = larger;
     }
 }

@@ -1,53 +1,64 @@
-// A table: what every call on one refuses first, and what a call that lists cubes refuses.
+// A table that a call takes: its width and its cells, and what every call on a table refuses first.
 //
-//     tables::table_refusal(2, &[0, 1, 1])        // 2: three cells, not four
-//     tables::table_refusal(2, &[0, 1, 1, 2])     // 0: not refused
-#![tactic(auto)]
+//     Table::new(2, &[0, 1, 1])           // Err(Refusal::TableLength): three cells, not four
+//     Table::new(2, &[0, 1, 1, 2])        // Ok: the table of two variables
+#![tactic(auto, using(cube::proofs::Calls::refusals))]
 
-ghost use Rattle.std.specs.Prelude.{◌≡◌};
-ghost use Rattle.cube.specs.Calls.{bad_cell, table_conditions, first_of};
+ghost use Rattle.std.specs.Prelude.{◌≡◌, ◌≤◌, ◌^◌, length, IfOk, OnOk};
+ghost use Rattle.cube.specs.Calls.{widest, bad_cell, table_conditions, first_of, refusal_of};
 ghost use Rattle.tables.specs.Listing.{primes_refuses};
 
+use cube::Refusal;
+
+// A table of `width` variables: a cell for each code.
+#[derive(Clone, Copy)]
+pub struct Table<'a> {
+    pub width: usize,
+    pub cells: &'a [u8],
+    pub ghost narrow: { width ≤ widest },
+    pub ghost sized: { length cells.now ≡ 2 ^ width },
+}
+
 // Whether a cell is above 2.
-fn bad_cell(table: &[u8]) -> bool
-    ensures { result ≡ bad_cell table.now }
+fn bad_cell(cells: &[u8]) -> bool
+    ensures { result ≡ bad_cell cells.now }
 {
-    let mut c = 0;
-    while c < table.len() {
-        if 2 < table[c] {
-            return true;
+    cells.iter().any(|&cell| 2 < cell)
+}
+
+impl<'a> Table<'a> {
+    // The table of n variables with these cells: refused for a bad width, for a wrong number of cells, then for a cell above 2.
+    pub fn new(n: usize, cells: &'a [u8]) -> Result<Table<'a>, Refusal>
+        ensures refusal { refusal_of result ≡ first_of (table_conditions n cells.now) }
+        ensures table { IfOk result (λ t. (t.width ≡ n) × (t.cells.now ≡ cells.now)) }
+    {
+        spelling::check_width(n)?;
+        if cells.len() != spelling::codes(n) {
+            return Err(Refusal::TableLength);
         }
-        c += 1;
+        if bad_cell(cells) {
+            return Err(Refusal::Cell);
+        }
+        Ok(Table { width: n, cells })
     }
-    false
-}
 
-// What every call on a table refuses first: 1, 2, 3, or 0 where none of these holds.
-pub fn table_refusal(n: usize, table: &[u8]) -> u8
-    ensures { result ≡ first_of (table_conditions n table.now) }
-{
-    if spelling::bad_width(n) {
-        return 1;
+    // The same for a call that lists cubes of the table into so many lent places: refused, last, for fewer than 3^n places.
+    pub fn with_places(n: usize, cells: &'a [u8], places: usize) -> Result<Table<'a>, Refusal>
+        ensures refusal { refusal_of result ≡ primes_refuses n cells.now places }
+        ensures table { IfOk result (λ t. (t.width ≡ n) × (t.cells.now ≡ cells.now)) }
+        ensures enough { OnOk result (3 ^ n ≤ places) }
+    {
+        let table = Table::new(n, cells)?;
+        if places < table.cubes() {
+            return Err(Refusal::ShortOutput);
+        }
+        Ok(table)
     }
-    if table.len() != spelling::codes(n) {
-        return 2;
-    }
-    if bad_cell(table) {
-        return 3;
-    }
-    0
-}
 
-// What a call that lists cubes into 3^n places or more refuses: 1, 2, 3, 4, or 0 where none of these holds.
-pub fn listing_refusal(n: usize, table: &[u8], places: usize) -> u8
-    ensures { result ≡ primes_refuses n table.now places }
-{
-    let k = table_refusal(n, table);
-    if k != 0 {
-        return k;
+    // The number of its cubes.
+    pub fn cubes(self) -> usize
+        ensures { result ≡ 3 ^ self.entry.width }
+    {
+        spelling::cubes(self.width)
     }
-    if places < spelling::cubes(n) {
-        return 4;
-    }
-    0
 }

@@ -6,11 +6,14 @@ use mathlib.Core.Bool.{Bool, true, false, cond}
 use mathlib.Core.List.{List, [], ◌∷◌, ◌++◌}
 use Prim.Native.Nat.{ℕ, zero, suc, ◌^◌, ◌/◌, ◌%◌, ◌<◌, ◌≤◌}
 use native.Mathlib.Nat.{pow-suc}
+use native.Mathlib.Numerals.{add-one}
 use native.Mathlib.Omega.{arith}
 use lib.Dec.{ltb}
 use lib.ListN.{length, length-append}
 use borrow.Author.Tests.{lt-ltb, le-ltb, ltb-false}
 use Rattle.numbers.proofs.Bools.{lt_or_le}
+use Rattle.std.specs.Fmt.{decimal}
+use Rattle.std.proofs.lemmas.Fmt.{AppendsLastDigit, decimal_from_appends, length-decimal-le_succ}
 use Rattle.text.specs.Characters.{digit_character}
 use Rattle.text.specs.Output.{decimal_by, in_decimal}
 use Rattle.text.specs.Theorems.{Decimal}
@@ -50,6 +53,17 @@ decimal_low x h =
 
 decimal_high : (x : ℕ) → 10 ≤ x → in_decimal x ≡ in_decimal (x / 10) ++ (digit_character (x % 10) ∷ [])
 decimal_high x h = decimal_is x ∙ ap (λ (t : Bool). cond t [] (in_decimal (x / 10)) ++ last x) (le-ltb x 10 h)
+
+appends : AppendsLastDigit decimal_by
+unfolding decimal_by
+appends = record {
+  one = λ k n h. one_digit k n h ∙ ap (λ (i : ℕ). digit_character i ∷ []) (omega arith);
+  more = λ k n h. ap (λ (t : Bool). cond t [] (decimal_by k (n / 10)) ++ last n) (le-ltb n 10 h);
+}
+
+-- what the library writes for a number of 64 bits
+pub is-decimal : (x : ℕ) → x < 2 ^ 64 → decimal x ≡ in_decimal x
+is-decimal x l = sym (decimal_from_appends decimal_by appends (suc x) x l (simp add-one at (length-decimal-le_succ x l))) ∙ by_any (suc x) x x (omega arith) (omega arith)
 
 pub decimals : (x : ℕ) → Decimal x
 decimals x = record { low = decimal_low x; high = decimal_high x }

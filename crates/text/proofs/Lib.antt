@@ -1,9 +1,9 @@
--- The grammar, stepping and keeping of the input; decimals, lines and examples of the output; and the replies of a program.
+-- The grammar, stepping and keeping of the input; decimals, lines, rows and examples of the output; and the replies of a program.
 pub mod Grammar
 pub mod Stepping
 pub mod Keeping
-pub mod Readings
 pub mod Decimals
 pub mod Lines
+pub mod Rows
 pub mod Examples
 pub mod Replies

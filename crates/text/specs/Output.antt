@@ -4,7 +4,7 @@ use Rattle.std.specs.Prelude.{◌≡◌, ℕ, zero, suc, ◌/◌, ◌%◌, cond,
 use Rattle.numbers.specs.Below.{tabulate}
 use Rattle.cube.specs.Words.{Row, Cover, cover_literals, digit_of}
 use Rattle.cube.specs.Theorems.{bit_of_variable}
-use Rattle.cube.specs.Calls.{first_of, table_conditions, Answer, refuses, gives, written}
+use Rattle.cube.specs.Calls.{first_of, table_conditions, Answer, refuses, gives}
 use Rattle.text.specs.Characters.{bytes, line_feed, digit_character, character_of}
 use Rattle.text.specs.Input.{Table, read}
 
@@ -71,14 +71,3 @@ pub record ProgramOutput (shown : ℕ → Cover → List ℕ) (May : ℕ → Lis
   pub list : Cover
   pub is_written : (t : Table) → read input ≡ gives t → first_of (table_conditions t.width t.cells) ≡ 0 → May t.width t.cells list
   pub is_output : text ≡ output_by shown input list
-
--- a text is at the front of a lent buffer, and the answer is its length; what follows it is unchanged
-pub record Prints (text old new : List ℕ) (r : ℕ) : Type 0 where
-  pub answer : r ≡ length text
-  pub places : new ≡ written 0 text old
-
--- the output of a program for an input stands at the front of a lent buffer
-pub record PrintsInput (Output : List ℕ → List ℕ → Type 0) (input old new : List ℕ) (r : ℕ) : Type 0 where
-  pub text : List ℕ
-  pub output : Output input text
-  pub prints : Prints text old new r

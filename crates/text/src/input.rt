@@ -1,132 +1,174 @@
-// The grammar of the input, a byte at a time. However long the run is, at most the cells of the widest table and one more are kept, in a
-// lent buffer.
+// The grammar of the input, a byte at a time. However long the run is, a reader keeps at most the cells of the widest table and one more.
 //
-//     let mut cells = [0u8; MOST_CELLS];
-//     let some = feed(Reading::Start, &mut cells, b"2\n01");
-//     let all = feed(some, &mut cells, b"11\n");
-//     close(all)      // width 2, and 4 cells in the buffer: 0 1 1 1
+//     let mut reader = Reader::new();
+//     reader.feed(b"2\n01");
+//     reader.feed(b"11\n");
+//     reader.text()?      // width 2 and the cells 0 1 1 1
 //
-// The buffer is working memory: nothing is refused before the text is closed, and a text that is not in form may have left cells in it.
-ghost use Rattle.std.specs.Prelude.{◌≡◌, [], ◌∷◌};
-ghost use Rattle.text.specs.Input.{cell_of};
-ghost use Rattle.text.specs.Steps.{Room, Takes, LeadsTo, Closes};
+// Nothing is refused before the text ends.
+ghost use Rattle.std.specs.Prelude.{◌≡◌, MatchOption, false, true, [], ◌∷◌, ◌++◌};
+ghost use Rattle.text.specs.Input.{cell_of, is_cell, is_digit, width_of};
+ghost use Rattle.text.specs.Steps.{keep};
 
+use arrayvec::ArrayVec;
+use cube::Refusal;
 use spelling::MOST_CODES;
+use std::marker::Model;
 
 // One cell more than the widest table has.
 pub const MOST_CELLS: usize = MOST_CODES + 1;
 
-// What the bytes so far are the beginning of.
-#[derive(Drop)]
-pub enum Reading {
-    // A text: nothing has been read yet.
-    Start,
-    // A digit: the width.
-    Width(usize),
-    // The width, a line feed and a run, with the number of cells that are kept.
-    Run(usize, usize),
-    // The same and the last line feed.
-    End(usize, usize),
-    // No text in form.
-    Wrong,
+// What comes next in a text in form.
+#[derive(Clone, Copy)]
+enum Next {
+    // The width.
+    Width,
+    // The line feed behind this width.
+    LineFeed(usize),
+    // A cell of a table of this width, or the last line feed.
+    Cell(usize),
+    // The end.
+    End(usize),
 }
 
-// The first byte is a digit.
-fn digit(byte: u8) -> Reading
-    ensures { LeadsTo Reading.Start byte result }
-{
-    if byte < b'0' {
-        return Reading::Wrong;
-    }
-    if b'9' < byte {
-        return Reading::Wrong;
-    }
-    Reading::Width((byte - b'0') as usize)
-}
-
-// The second byte is a line feed.
-fn line_feed(n: usize, byte: u8) -> Reading
-    ensures { LeadsTo (Reading.Width n) byte result }
-{
-    if byte == b'\n' {
-        return Reading::Run(n, 0);
-    }
-    Reading::Wrong
-}
-
-// The cell of a character, or 3, which is not a cell.
-fn cell_of(byte: u8) -> u8
-    ensures { result ≡ cell_of byte }
+// The width that a digit says.
+fn width_of(byte: u8) -> Option<usize>
+    ensures { MatchOption result (is_digit byte ≡ false) (λ n. (is_digit byte ≡ true) × (n ≡ width_of byte)) }
 {
     match byte {
-        b'0' => 0,
-        b'1' => 1,
-        b'-' => 2,
-        _ => 3,
+        b'0'..=b'9' => Some(usize::from(byte - b'0')),
+        _ => None,
     }
 }
 
-// Any further byte is a cell, or the last line feed.
-fn run(n: usize, count: usize, cells: &mut [u8], byte: u8) -> Reading
-    requires { Room (Reading.Run n count) cells.old }
-    ensures { Takes (Reading.Run n count) cells.old (byte ∷ []) result cells.new }
+// The cell of a character.
+fn cell_of(byte: u8) -> Option<u8>
+    ensures { MatchOption result (is_cell byte ≡ false) (λ c. (is_cell byte ≡ true) × (c ≡ cell_of byte)) }
 {
-    if byte == b'\n' {
-        return Reading::End(n, count);
+    match byte {
+        b'0' => Some(0),
+        b'1' => Some(1),
+        b'-' => Some(2),
+        _ => None,
     }
-    let cell = cell_of(byte);
-    if 2 < cell {
-        return Reading::Wrong;
-    }
-    if count < MOST_CELLS {
-        cells[count] = cell;
-        return Reading::Run(n, count + 1);
-    }
-    Reading::Run(n, count)
 }
 
-// The next byte.
-pub fn step(reading: Reading, cells: &mut [u8], byte: u8) -> Reading
-    requires { Room reading cells.old }
-    ensures { Takes reading cells.old (byte ∷ []) result cells.new }
+// The cells of a run that are kept.
+type Cells = ArrayVec<u8, MOST_CELLS>;
+
+// Keeps a cell where there is room for one more.
+fn keep(cells: &mut Cells, cell: u8)
+    ensures { cells.new.items ≡ keep (cells.old.items ++ cell ∷ []) }
 {
-    match reading {
-        Reading::Start => digit(byte),
-        Reading::Width(n) => line_feed(n, byte),
-        Reading::Run(n, count) => run(n, count, cells, byte),
-        Reading::End(_, _) => Reading::Wrong,
-        Reading::Wrong => Reading::Wrong,
+    if !cells.is_full() {
+        cells.push(cell);
     }
 }
 
-// The bytes of a piece, one after the other.
-pub fn feed(reading: Reading, cells: &mut [u8], piece: &[u8]) -> Reading
-    requires { Room reading cells.old }
-    ensures { Takes reading cells.old piece.now result cells.new }
-{
-    let mut past = reading;
-    let mut i = 0;
-    while i < piece.len() {
-        let next = step(past, cells, piece[i]);
-        past = next;
-        i += 1;
+impl Next {
+    ghost use Rattle.std.specs.Prelude.{◌≡◌, Some};
+    ghost use Rattle.text.specs.Steps.{stepped};
+    ghost use Rattle.text.specs.Readers.{state_of, Kept};
+
+    // What comes behind this byte. A cell is kept where there is room.
+    fn behind(self, byte: u8, cells: &mut Cells) -> Option<Self>
+        requires { Kept (Some self) cells.old.items }
+        ensures state { state_of result cells.new.items ≡ stepped (state_of (Some self) cells.old.items) byte }
+        ensures kept { Kept result cells.new.items }
+    {
+        match self {
+            Next::Width => width_of(byte).map(Next::LineFeed),
+            Next::LineFeed(n) if byte == b'\n' => Some(Next::Cell(n)),
+            Next::Cell(n) if byte == b'\n' => Some(Next::End(n)),
+            Next::Cell(n) => {
+                keep(cells, cell_of(byte)?);
+                Some(Next::Cell(n))
+            }
+            Next::LineFeed(_) | Next::End(_) => None,
+        }
     }
-    past
 }
 
-// What a text says: a width and the number of cells that are kept, or the number of the refusal.
+// What a text says: a width, and the cells that are kept.
+#[derive(Clone, Copy)]
+pub struct Text<'a> {
+    pub width: usize,
+    pub cells: &'a [u8],
+}
+
+// A text that is being read.
 #[derive(Drop)]
-pub enum Text {
-    Table(usize, usize),
-    Refused(u8),
+pub struct Reader {
+    // None behind a byte that no text in form has there.
+    next: Option<Next>,
+    // No cell before the run.
+    cells: Cells,
 }
 
-// The end of the text.
-pub fn close(reading: Reading) -> Text
-    ensures { Closes reading result }
-{
-    match reading {
-        Reading::End(n, count) => Text::Table(n, count),
-        _ => Text::Refused(9),
+impl Model for Reader {
+    ghost use Rattle.std.specs.Prelude.{◌≡◌};
+    ghost use Rattle.text.specs.Steps.{State};
+
+    ghost Value = { State };
+
+    ghost use Rattle.text.specs.Readers.{state_of, Kept};
+
+    ghost view = { λ r. state_of r.next r.cells.items };
+
+    ghost invariant = { λ r. Kept r.next r.cells.items };
+}
+
+impl Reader {
+    ghost use Rattle.std.specs.Prelude.{◌≡◌, MatchResult};
+    ghost use Rattle.cube.specs.Calls.{refusal_number, refuses, gives};
+    ghost use Rattle.text.specs.Steps.{State, at_start, wrong, stepped, fed, closed};
+
+    // Nothing has been read yet.
+    pub fn new() -> Self
+        ensures { result ≡ at_start }
+    {
+        Reader {
+            next: Some(Next::Width),
+            cells: ArrayVec::new(),
+        }
+    }
+
+    // The next byte.
+    fn push(&mut self, byte: u8)
+        ensures { self.new ≡ stepped self.old byte }
+    {
+        if let Some(next) = self.next {
+            self.next = next.behind(byte, &mut self.cells);
+        }
+    }
+
+    // The bytes of a piece, one after the other.
+    pub fn feed(&mut self, piece: &[u8])
+        ensures { self.new ≡ fed self.old piece.now }
+    {
+        for byte in piece {
+            self.push(*byte);
+        }
+    }
+
+    // The text cannot be read: it is not in form.
+    pub fn fail(&mut self)
+        ensures { self.new ≡ wrong }
+    {
+        self.next = None;
+    }
+
+    // What the text says, where it ends here.
+    pub fn text(&self) -> Result<Text<'_>, Refusal>
+        ensures { MatchResult result (λ t. closed self.now ≡ gives (record { width = t.width; cells = t.cells.now }))
+            (λ e. closed self.now ≡ refuses (refusal_number e)) }
+    {
+        match self.next {
+            Some(Next::End(width)) => Ok(Text {
+                width,
+                cells: &self.cells,
+            }),
+            _ => Err(Refusal::Text),
+        }
     }
 }

@@ -1,22 +1,13 @@
--- `chart_arrays::row_columns` meets its contract: the word of the codes before c. Assumes nothing.
-use mathlib.Core.Path.{refl, subst⁻¹}
-use Prim.Native.Nat.{ℕ, ◌^◌, ◌<◌}
-use native.Mathlib.Omega.{arith}
-use borrow.Author.Rules.{rules}
+-- `chart_arrays::row_columns` meets its contract: no column before the first code, and the columns before a code are below it. Assumes nothing.
+use Rattle.std.proofs.Common.{refl, arith}
 use Rattle.numbers.specs.Below.{word_of}
-use Rattle.numbers.proofs.Bits.{word_lt, word_more}
+use Rattle.numbers.proofs.Bits.{word_lt}
+use Rattle.cube.proofs.Calls.{codes_most}
 use Rattle.chart_arrays.proofs.row_columns.Goals as goal
 
-pub loop-c-init : goal.loop-c-init
+pub loop-code-init : goal.loop-code-init
 unfolding word_of
-loop-c-init c = (search rules, search rules, refl)
+loop-code-init c = refl
 
-pub with_code-word-requires : goal.with_code-word-requires
-with_code-word-requires c =
-    let i = c.loop-c.invariant in
-    record { code = c.loop-c-test.true; column = omega arith; lower = subst⁻¹ (λ (x : ℕ). x < 2 ^ c.loop-c.c) i.2 (word_lt _ _) }
-
-pub loop-c-preserved : goal.loop-c-preserved
-loop-c-preserved c =
-    let i = c.loop-c.invariant in
-    (i.0, omega arith, word_more _ _ i.2 c.with_code-word.ensures)
+pub with_next-word-requires : goal.with_next-word-requires
+with_next-word-requires c = (omega (arith, codes_most _ c.args.table.narrow), rw c.loop-code.invariant (word_lt c.loop-code.code _))

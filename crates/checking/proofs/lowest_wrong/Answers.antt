@@ -1,28 +1,27 @@
 -- `checking::lowest_wrong` meets its contract: at each turn no code before c is wrong. Assumes nothing.
-use mathlib.Core.Path.{sym, ap, ◌∙◌}
+use mathlib.Core.Path.{sym}
 use Prim.Native.Nat.{◌^◌, ◌<◌}
 use native.Mathlib.Omega.{arith}
-use lib.Dec.{T}
-use Rattle.cube.specs.Calls.{gives}
-use Rattle.numbers.proofs.Bools.{holds}
 use Rattle.cube.proofs.Calls.{codes_most}
-use Rattle.checking.specs.Check.{is_wrong}
-use Rattle.checking.proofs.Verdicts.{verdict_right, verdict_wanted}
+use Rattle.checking.proofs.Verdicts.{verdict_right, missed_named, stray_named}
 use Rattle.checking.proofs.lowest_wrong.Goals as goal
 
-pub is_wrong-requires : goal.is_wrong-requires
-is_wrong-requires c = omega (arith, c.codes-codes.ensures, c.requires.1, codes_most c.args.n c.requires.0)
+pub contains-requires : goal.contains-requires
+contains-requires c = let t = c.args.table in omega (arith, t.sized, codes_most t.width t.narrow)
 
-pub returns-then-is_wrong : goal.returns-then-is_wrong
-returns-then-is_wrong c = λ rs e.
-    let a = c.args in
-    let l = c.loop-c in
-    let below : l.c < 2 ^ a.n = omega (arith, c.codes-codes.ensures) in
-    let wrong : T (is_wrong a.table.now rs l.c) = holds _ (sym (c.is_wrong.ensures rs (e l.c below)) ∙ c.if-is_wrong.true) in
-    c.missed_or_stray.ensures
-    ∙ ap gives (sym (verdict_wanted a.n a.table.now rs l.c (record { below = below; passes = wrong; none_lower = l.invariant.1 rs e })))
+pub returns-in-1-false : goal.returns-in-1-false
+returns-in-1-false c = λ rs e.
+    let t = c.args.table in
+    let below : c.loop-c.c < 2 ^ t.width = omega (arith, t.sized) in
+    missed_named t.width t.cells.now rs c.loop-c.c below (c.loop-c.invariant rs e) _ (e c.loop-c.c below) c.in-1-false.is-0 (sym c.in-1-false.ensures)
+
+pub returns-in-0-true : goal.returns-in-0-true
+returns-in-0-true c = λ rs e.
+    let t = c.args.table in
+    let below : c.loop-c.c < 2 ^ t.width = omega (arith, t.sized) in
+    stray_named t.width t.cells.now rs c.loop-c.c below (c.loop-c.invariant rs e) _ (e c.loop-c.c below) c.in-0-true.is-0 (sym c.in-0-true.ensures)
 
 pub returns : goal.returns
 returns c = λ rs e.
-    let a = c.args in
-    ap gives (sym (verdict_right a.n a.table.now rs (λ k l. c.loop-c.invariant.1 rs e k (omega (arith, c.codes-codes.ensures)))))
+    let t = c.args.table in
+    sym (verdict_right t.width t.cells.now rs (λ k l. c.loop-c.invariant rs e k (omega (arith, t.sized))))

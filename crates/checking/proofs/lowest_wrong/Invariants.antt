@@ -1,5 +1,5 @@
 -- `checking::lowest_wrong` meets its contract: at each turn no code before c is wrong. Assumes nothing.
-use Prim.Native.Nat.{ℕ, ◌-◌, ◌<◌, ◌≤◌}
+use Prim.Native.Nat.{ℕ, ◌<◌}
 use lib.Dec.{T}
 use Rattle.cube.specs.Words.{Cover}
 use Rattle.checking.specs.Check.{is_wrong}
@@ -7,7 +7,4 @@ use Rattle.checking.specs.Steps.{Matches}
 use Rattle.checking.proofs.lowest_wrong.Given as goal
 
 abbrev pub invariant-loop-c : goal.invariant-loop-c
-invariant-loop-c l = (l.c ≤ l.codes) × ((rs : Cover) → Matches l.n rs l.matched → (k : ℕ) → k < l.c → T (is_wrong l.table rs k) → ⊥)
-
-abbrev pub decreases-loop-c : goal.decreases-loop-c
-decreases-loop-c l = l.codes - l.c
+invariant-loop-c l = (rs : Cover) → Matches l.table.width rs l.matched → (k : ℕ) → k < l.c → T (is_wrong l.table.cells.now rs k) → ⊥

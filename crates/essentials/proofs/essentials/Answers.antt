@@ -1,5 +1,6 @@
--- `essentials::essentials` meets its contract: each return goes by the refusal. Assumes nothing.
-use mathlib.Core.Path.{sym, ◌∙◌}
+-- `essentials::essentials` meets its contract: there is a place for each cube. Assumes nothing.
+use mathlib.Core.Path.{ap₂}
+use Rattle.numbers.proofs.Lent.{puts_same}
 use Rattle.cube.specs.Words.{essentials_of}
 use Rattle.cube.proofs.Calls.{essentials_most}
 use Rattle.tables.proofs.Listing.{listing_done}
@@ -7,6 +8,7 @@ use Rattle.essentials.proofs.essentials.Goals as goal
 
 pub returns : goal.returns
 returns c =
-    let s = c.args in
-    listing_done s.n s.table.now (essentials_of s.n s.table.now) s.out.now (sym c.listing_refusal-k.ensures ∙ c.if-k-ne0.false)
-    (essentials_most s.n s.table.now) c.list_essentials.ensures
+    let a = c.args in
+    let given = c.in_ok-table.ensures in
+    listing_done a.n a.table.now (essentials_of a.n a.table.now) a.out.now given.refusal (essentials_most a.n a.table.now)
+    (puts_same (ap₂ essentials_of given.table.0 given.table.1) c.list_essentials.ensures)

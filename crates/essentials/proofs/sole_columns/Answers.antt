@@ -1,14 +1,13 @@
--- `essentials::sole_columns` meets its contract: what the words before q have, met once and met twice. Assumes nothing.
-use mathlib.Core.Path.{refl}
-use native.Mathlib.Omega.{arith}
-use borrow.Author.Rules.{rules}
+-- `essentials::sole_columns` meets its contract: what the words so far have, met once and met twice. Assumes nothing.
+use Rattle.std.proofs.Common.{sym}
+use Rattle.std.proofs.lemmas.List.{get_or_read}
 use Rattle.essentials.proofs.SoleEntries.{seen_none, seen_more}
 use Rattle.essentials.proofs.sole_columns.Goals as goal
 
-pub loop-q-init : goal.loop-q-init
-loop-q-init c = (search rules, search rules, seen_none _)
+pub loop-word-init : goal.loop-word-init
+loop-word-init c = seen_none _ _ _ c.new-seen.ensures.once c.new-seen.ensures.twice
 
-pub loop-q-preserved : goal.loop-q-preserved
-loop-q-preserved c =
-    let i = c.loop-q.invariant in
-    (i.0, omega arith, seen_more c.args.words.now _ _ c.loop-q.seen.once c.loop-q.seen.twice _ _ refl i.2 c.with_word-seen.ensures.once c.with_word-seen.ensures.twice)
+pub loop-word-preserved : goal.loop-word-preserved
+loop-word-preserved c =
+    seen_more c.args.words.now _ _ c.loop-word.seen.once c.loop-word.seen.twice _ _
+    (sym (get_or_read c.args.words.now c.loop-word.word-index _ c.loop-word-test.true c.word-item.is 0)) c.loop-word.invariant c.add.ensures.once c.add.ensures.twice

@@ -1,42 +1,64 @@
--- `gathering::gather` meets its contract: at each turn every row before place i is formed, and the set holds the codes that one of them matches.
+-- `gathering::gather` meets its contract: at each turn every row before this one is formed, and the set holds the codes that one of them matches.
 -- Assumes nothing.
-use mathlib.Core.Path.{◌≡◌, sym, ap, ◌∙◌}
-use mathlib.Core.Bool.{not}
-use Prim.Native.Nat.{ℕ}
+use mathlib.Core.Path.{◌≡◌, refl, sym, ap, ap₂, ◌∙◌, subst}
+use mathlib.Core.Bool.{false, not}
+use mathlib.Core.List.{List, [], ◌∷◌}
+use Prim.Native.Nat.{ℕ, ◌<◌}
 use native.Mathlib.Omega.{arith}
-use lib.ListN.{length}
+use lib.ListN.{length, length-append, get_or}
 use borrow.Author.Count.{below_more}
-use borrow.Author.Rules.{rules}
-use Rattle.cube.proofs.Lists.{matches_place, bad_found, bad_none}
+use Rattle.std.proofs.lemmas.Slice.Zip.{zip_turn, zip_end}
+use Rattle.cube.specs.Words.{Row, formed, row_matches}
+use Rattle.cube.proofs.Lists.{row_in, matches_place, bad_found, bad_none}
+use Rattle.gathering.specs.Gathered.{HoldsExactly}
 use Rattle.gathering.proofs.Sets.{by_first, same_test, no_row, one_row_more}
 use Rattle.gathering.proofs.gather.Invariants.{matches}
 use Rattle.gathering.proofs.gather.Goals as goal
 
-pub loop-i-init : goal.loop-i-init
-loop-i-init c =
-    let a = c.args in
-    (search rules, (λ k l. absurd (omega arith)), no_row a.n (matches a.values.now a.cares.now))
+-- the row of the value and the care in place k
+row_is : (vs ws : List ℕ) (k v w : ℕ) → ((d : ℕ) → v ≡ get_or vs k d) → ((d : ℕ) → w ≡ get_or ws k d) → record { value = v; care = w } ≡ row_in vs ws k
+row_is vs ws k v w e f = ap₂ (λ (x y : ℕ). record { value = x; care = y }) (e 0) (f 0)
+
+pub loop-value-init : goal.loop-value-init
+loop-value-init c =
+    let r = c.args.rows in record { formed = λ k l. absurd (omega arith); codes = no_row c.args.n (matches r.values.now r.cares.now) }
 
 pub returns-then-not-is_formed : goal.returns-then-not-is_formed
 returns-then-not-is_formed c =
-    bad_found c.args.n c.args.values.now c.args.cares.now c.requires.1 _ (omega arith) (ap not (sym c.is_formed.ensures ∙ c.if-not-is_formed.true))
+    let r = c.args.rows in
+    let here = zip_turn r.values.now r.cares.now c.loop-value.yielded c.into_iter-value-iterator.result c.loop-value.value-iterator c.next.new.self
+    c.next.result (cc) (cc) c.loop-value.yielded_by _ c.in-Some.is c.next.ensures.steps in
+    let row = row_is r.values.now r.cares.now (length c.loop-value.yielded) _ _ here.2 here.3 in
+    (bad_found c.args.n r.values.now r.cares.now r.paired _ here.0 (ap not (ap (formed c.args.n) (sym row) ∙ sym c.is_formed.ensures ∙ c.if-not-is_formed.true)), refl)
 
-pub loop-i-preserved : goal.loop-i-preserved
-loop-i-preserved c =
-    let a = c.args in
-    let l = c.loop-i in (
-      search rules,
-      below_more _ _ l.invariant.1 (ap not (sym c.is_formed.ensures ∙ c.if-not-is_formed.false)),
-      one_row_more a.n (matches a.values.now a.cares.now) l.i l.invariant.2 c.row_codes.ensures c.either-matched.ensures,
-    )
+pub loop-value-preserved : goal.loop-value-preserved
+loop-value-preserved c =
+    let r = c.args.rows in
+    let n : ℕ = c.args.n in
+    let l = c.loop-value in
+    let here = zip_turn r.values.now r.cares.now l.yielded c.into_iter-value-iterator.result l.value-iterator c.next.new.self
+    c.next.result (cc) (cc) l.yielded_by _ c.in-Some.is c.next.ensures.steps in
+    let row = row_is r.values.now r.cares.now (length l.yielded) _ _ here.2 here.3 in
+    let more = sym (length-append l.yielded ((c.in-Some.field-0-0, c.in-Some.field-0-1) ∷ [])) in record {
+      formed =
+          subst (λ (m : ℕ). (k : ℕ) → k < m → not (formed n (row_in r.values.now r.cares.now k)) ≡ false) more
+          (below_more _ _ l.invariant.formed (ap not (ap (formed n) (sym row) ∙ sym c.is_formed.ensures ∙ c.if-not-is_formed.false)));
+      codes =
+          subst (λ (m : ℕ). HoldsExactly n (by_first (matches r.values.now r.cares.now) m) c.bitor-matched.result) more
+          (one_row_more n (matches r.values.now r.cares.now) (length l.yielded) l.invariant.codes
+          (subst (λ (x : Row). HoldsExactly n (row_matches x) c.row_codes.result) row c.row_codes.ensures) c.bitor-matched.ensures);
+    }
 
 pub returns : goal.returns
 returns c =
-    let a = c.args in
-    let l = c.loop-i in
-    let all : l.i ≡ length a.values.now = omega arith in (
-      bad_none a.n a.values.now a.cares.now c.requires.1 (λ k h. l.invariant.1 k (omega arith)),
-      same_test a.n
-          (λ x. ap (λ (m : ℕ). by_first (matches a.values.now a.cares.now) m x) all ∙ sym (matches_place a.values.now a.cares.now x c.requires.1))
-          l.invariant.2,
+    let r = c.args.rows in
+    let n : ℕ = c.args.n in
+    let l = c.loop-value in
+    let end = zip_end r.values.now r.cares.now l.yielded c.into_iter-value-iterator.result l.value-iterator c.next.new.self c.next.result (cc) (cc)
+    l.yielded_by c.in-None.is c.next.ensures.steps in
+    let all : length l.yielded ≡ length r.values.now = omega (arith, end, r.paired) in (
+      bad_none n r.values.now r.cares.now r.paired (λ k h. l.invariant.formed k (omega arith)),
+      same_test n
+          (λ x. ap (λ (m : ℕ). by_first (matches r.values.now r.cares.now) m x) all ∙ sym (matches_place r.values.now r.cares.now x r.paired))
+          l.invariant.codes,
     )

@@ -3,5 +3,5 @@ use native.Mathlib.Omega.{arith}
 use lib.Pow.{pow-lt}
 use Rattle.gathering.proofs.with_bit.Goals as goal
 
-pub raised-requires : goal.raised-requires
-raised-requires c = omega (arith, pow-lt c.requires, c.codes-weight.ensures)
+pub shl-requires : goal.shl-requires
+shl-requires c = omega (arith, pow-lt c.requires, c.codes.ensures)

@@ -1,14 +1,7 @@
--- `keep_out::exchange` meets its contract: the cells before place i are exchanged. Assumes nothing.
-use mathlib.Core.List.{map}
-use Prim.Native.Nat.{◌-◌, ◌≤◌}
-use lib.ListN.{length, take}
-use Rattle.numbers.specs.Lent.{Puts}
+-- `keep_out::exchange` meets its contract: the cells so far are exchanged. Assumes nothing.
+use Rattle.std.proofs.Common.{◌≡◌, map, take}
 use Rattle.keep_out.specs.Theorems.{exchanged_cell}
 use Rattle.keep_out.proofs.exchange.Given as goal
 
-abbrev pub invariant-loop-i : goal.invariant-loop-i
-invariant-loop-i l =
-    (length l.table ≤ length l.initial.cells) × (l.i ≤ length l.table) × Puts (map exchanged_cell (take l.i l.table)) l.initial.cells 0 l.cells l.i
-
-abbrev pub decreases-loop-i : goal.decreases-loop-i
-decreases-loop-i l = length l.table - l.i
+abbrev pub invariant-loop-cell : goal.invariant-loop-cell
+invariant-loop-cell l = l.cells.items ≡ map exchanged_cell (take l.cell-index l.table)

@@ -1,27 +1,27 @@
 -- `plan::plan` meets its contract: it refuses, or writes the chosen list. Assumes nothing.
-use mathlib.Core.Path.{sym, ◌∙◌}
-use native.Mathlib.Omega.{arith}
-use lib.ListN.{length}
-use Rattle.plan.proofs.Refusals.{plannable}
-use Rattle.plan.proofs.Endings.{count_most, plan_done}
+use Rattle.std.proofs.Common.{rules, ℕ, List, subst₂, arith}
+use Rattle.plan.specs.Steps.{Chosen}
+use Rattle.plan.proofs.Endings.{cubes_most, plan_refused, plan_done}
 use Rattle.plan.proofs.plan.Goals as goal
+
+pub returns-in_err-table : goal.returns-in_err-table
+returns-in_err-table c = search (rules, plan_refused)
 
 pub write_rows-requires : goal.write_rows-requires
 write_rows-requires c =
-    let s = c.args in
-    let p = plannable s.n s.table.now (length s.values.now) (length s.cares.now) (sym c.plan_refusal-k.ensures ∙ c.if-k-ne0.false) in
-    let chosen = c.shortest-list.ensures in
-    let most = count_most s.n s.table.now s.values.now s.cares.now _ _ _ chosen in
-    record {
-      width = p.table.to;
-      cubes_long = chosen.within;
-      values_long = omega (arith, most, p.enough_values);
-      cares_long = omega (arith, most, p.enough_cares);
-      below = chosen.below;
-    }
+    let list = c.shortest-list.result in
+    let table = c.in_ok-table.ensures.table in
+    let chosen = subst₂ (λ (n : ℕ) (t : List ℕ). Chosen n t list.cubes.items list.bits) table.0 table.1 c.shortest-list.ensures in
+    let most = cubes_most c.args.n c.args.table.now list.cubes.items list.bits chosen in
+    let places = c.in_ok-table.ensures.places in
+    rw c.as_slice.ensures.value
+    (record { width = omega (arith, table.0, c.in_ok-table.table.narrow); values_long = omega (arith, most, places.0); cares_long = omega (arith, most, places.1); below = chosen.below })
 
 pub returns : goal.returns
 returns c =
-    let s = c.args in
-    let rows = c.write_rows.ensures in
-    plan_done s.n s.table.now s.values.now s.cares.now _ _ _ c.shortest-list.ensures (sym c.plan_refusal-k.ensures ∙ c.if-k-ne0.false) _ _ rows
+    let list = c.shortest-list.result in
+    let table = c.in_ok-table.ensures.table in
+    let chosen = subst₂ (λ (n : ℕ) (t : List ℕ). Chosen n t list.cubes.items list.bits) table.0 table.1 c.shortest-list.ensures in
+    rw c.len.ensures.value
+    (plan_done c.args.n c.args.table.now c.args.values.now c.args.cares.now list.cubes.items list.bits chosen c.in_ok-table.ensures.refusal _ _
+    (rw c.as_slice.ensures.value at c.write_rows.ensures.values_are) (rw c.as_slice.ensures.value at c.write_rows.ensures.cares_are))

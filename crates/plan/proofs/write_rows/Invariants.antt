@@ -1,12 +1,10 @@
--- `plan::write_rows` meets its contract: the rows before place i are written. Assumes nothing.
-use Prim.Native.Nat.{◌-◌, ◌≤◌}
-use Rattle.plan.specs.Steps.{Spellable, SpelledInto}
+-- `plan::write_rows` meets its contract: the rows before place i are written, and what follows is as it was. Assumes nothing.
+use Rattle.std.proofs.Common.{◌≡◌, ◌++◌, map, take, drop}
+use Rattle.cube.specs.Words.{value_of, care_of}
 use Rattle.plan.proofs.write_rows.Given as goal
 
 abbrev pub invariant-loop-i : goal.invariant-loop-i
-invariant-loop-i l =
-    Spellable l.n l.cubes l.count l.initial.values l.initial.cares × (l.i ≤ l.count) ×
-    SpelledInto l.n l.cubes l.i l.initial.values l.initial.cares l.values l.cares
-
-abbrev pub decreases-loop-i : goal.decreases-loop-i
-decreases-loop-i l = l.count - l.i
+invariant-loop-i l = record {
+  values : l.values ≡ map (value_of l.n) (take l.i l.cubes) ++ drop l.i l.initial.values;
+  cares : l.cares ≡ map (care_of l.n) (take l.i l.cubes) ++ drop l.i l.initial.cares;
+}

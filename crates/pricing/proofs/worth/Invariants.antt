@@ -1,15 +1,14 @@
--- `pricing::worth` meets its contract. The invariant: the total is what the columns of the set before c are worth. Assumes nothing.
-use Rattle.std.proofs.Common.{◌≡◌, ◌-◌, ◌*◌, ◌<◌, ◌≤◌}
+-- `pricing::worth` meets its contract. The invariant: the total is what the columns of the set that were passed are worth. Assumes nothing.
+use Rattle.std.proofs.Common.{◌≡◌, ◌*◌, ◌≤◌}
+use Rattle.numbers.specs.Ascending.{passed}
 use Rattle.covering.specs.Sum.{if_set, sum}
-use Rattle.matrix.specs.Sets.{column_limit, has, In}
+use Rattle.matrix.specs.Sets.{has}
 use Rattle.matrix.specs.Matrix.{weight_limit}
 use Rattle.pricing.specs.Prices.{price_of}
 use Rattle.pricing.proofs.worth.Given as goal
 
 abbrev pub invariant-loop-c : goal.invariant-loop-c
-invariant-loop-c l =
-    (l.c ≤ column_limit) × (l.c < column_limit → In l.set l.c) × (l.total ≤ l.c * weight_limit) ×
-    (l.total ≡ sum l.c (λ x. if_set (has l.set x) (price_of l.prices x)))
-
-abbrev pub decreases-loop-c : goal.decreases-loop-c
-decreases-loop-c l = column_limit - l.c
+invariant-loop-c l = record {
+  small : l.total ≤ passed l.yielded * weight_limit;
+  is : l.total ≡ sum (passed l.yielded) (λ x. if_set (has l.fn.set x) (price_of l.prices x));
+}

@@ -10,21 +10,22 @@ use Rattle.cube.proofs.Codes.{implicant_one, implicant_two, serves_one, serves_t
 use Rattle.cells.specs.Steps.{Splits}
 use Rattle.cells.specs.declared.Split.TheVariants.{Halves}
 use Rattle.primes.specs.Steps.{kind, kind_of, Kinds, Joins}
+use Rattle.primes.specs.declared.Kind.{Kind}
+use Rattle.primes.specs.declared.Kind.TheVariants.{NoImplicant}
 use Rattle.primes.proofs.cube_kind.Goals as goal
 
-module _ (n : ℕ) (t : List ℕ) (q : ℕ) where
-  of_code : (c r : ℕ) → codes_of n q ≡ c ∷ [] → r ≡ kind (not (eqb (get_or t c 0) 0)) (eqb (get_or t c 0) 1) → r ≡ kind_of n t q
-  of_code c r e h = h ∙ sym (ap₂ kind (implicant_one n t q c e) (serves_one n t q c e))
+module _ (n : ℕ) (t : List ℕ) (q : ℕ) (r : Kind) where
+  of_code : (c : ℕ) → codes_of n q ≡ c ∷ [] → r ≡ kind (not (eqb (get_or t c 0) 0)) (eqb (get_or t c 0) 1) → r ≡ kind_of n t q
+  of_code c e h = h ∙ sym (ap₂ kind (implicant_one n t q c e) (serves_one n t q c e))
 
-  of_halves : (kinds : List ℕ) → Kinds n t kinds q → (a b r : ℕ) → Splits n q (Halves a b) → Joins (get_or kinds a 0) (get_or kinds b 0) r → r ≡ kind_of n t q
-  of_halves kinds k a b r s h =
+  of_halves : (kinds : List Kind) → Kinds n t kinds q → (a b : ℕ) → Splits n q (Halves a b) → Joins (get_or kinds a NoImplicant) (get_or kinds b NoImplicant) r
+      → r ≡ kind_of n t q
+  of_halves kinds k a b s h =
       h (implicant n t a) (serves n t a) (implicant n t b) (serves n t b) (k a s.0.lower) (k b s.1.lower)
       ∙ sym (ap₂ kind (implicant_two n t q a b s.2) (serves_two n t q a b s.2))
 
 pub returns-in-Code : goal.returns-in-Code
-returns-in-Code c =
-    of_code _ c.args.table.now _ _ _ c.in-Code.ensures.1 c.code_kind.ensures
+returns-in-Code c = of_code _ c.args.table.cells.now _ _ _ c.in-Code.ensures.1 c.code_kind.ensures
 
 pub returns-in-Halves : goal.returns-in-Halves
-returns-in-Halves c =
-    of_halves _ c.args.table.now _ c.args.kinds.now c.requires.2 _ _ _ c.in-Halves.ensures c.joined_kind.ensures
+returns-in-Halves c = of_halves _ c.args.table.cells.now _ _ c.args.kinds.now c.requires.lower _ _ c.in-Halves.ensures c.joined_kind.ensures

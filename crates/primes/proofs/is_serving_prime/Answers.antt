@@ -1,33 +1,29 @@
--- `primes::is_serving_prime` meets its contract: at each turn no literal before place k can be given up. Assumes nothing.
-use mathlib.Core.Path.{◌≡◌, sym, ap, ◌∙◌}
-use mathlib.Core.Bool.{Bool, true, false, not, ◌&&◌}
-use mathlib.Core.List.{List}
-use Prim.Native.Nat.{ℕ, ◌<◌}
+-- `primes::is_serving_prime` meets its contract: each literal is tried. Assumes nothing.
+use mathlib.Core.Path.{◌≡◌, refl, sym, ap, ap₂, ◌∙◌}
+use mathlib.Core.Bool.{Bool, ◌||◌}
+use Prim.Native.Nat.{ℕ, zero, suc, ◌+◌}
 use native.Mathlib.Omega.{arith}
-use lib.ListN.{get_or}
-use borrow.Author.Tests.{eq-eqb}
+use Rattle.std.specs.List.{list_any, range_with_len}
+use Rattle.std.proofs.Common.{rules, tests}
+use Rattle.std.proofs.lemmas.Iterator.{YieldsList-from_range}
+use Rattle.std.proofs.lemmas.Iterator.Search.{any_from_yields_List}
 use Rattle.numbers.specs.Below.{some}
-use Rattle.numbers.proofs.Below.{some_found, some_none}
+use Rattle.numbers.proofs.Below.{some_front}
 use Rattle.primes.specs.Steps.{expands_by, serving_prime_by}
 use Rattle.primes.proofs.is_serving_prime.Goals as goal
 
-module _ (n : ℕ) (kinds : List ℕ) (q : ℕ) where
-  module _ (h : get_or kinds q 0 ≡ 2) where
-    by_literals : serving_prime_by n kinds q ≡ not (some n (expands_by kinds q))
-    unfolding serving_prime_by
-    by_literals = ap (λ (b : Bool). b && not (some n (expands_by kinds q))) (eq-eqb (get_or kinds q 0) 2 h)
+-- one of m numbers from i on passes
+any_in_range : (f g : ℕ → Bool) (i m : ℕ) → ((k : ℕ) → f (i + k) ≡ g k) → list_any f (range_with_len i m) ≡ some m g
+unfolding some
+any_in_range f g i zero e = refl
+any_in_range f g i (suc m) e =
+    ap₂ ◌||◌ (ap f (omega arith) ∙ e 0) (any_in_range f (λ k. g (suc k)) (i + 1) m (λ k. ap f (omega arith) ∙ e (suc k))) ∙ sym (some_front m g)
 
-    one_expands : (k : ℕ) → k < n → expands_by kinds q k ≡ true → false ≡ serving_prime_by n kinds q
-    one_expands k l e = sym (by_literals ∙ ap not (some_found n (expands_by kinds q) k l e))
-
-    none_expands : ((k : ℕ) → k < n → expands_by kinds q k ≡ false) → true ≡ serving_prime_by n kinds q
-    none_expands f = sym (by_literals ∙ ap not (some_none n (expands_by kinds q) f))
-
-pub returns-then-expands : goal.returns-then-expands
-returns-then-expands c =
-    one_expands _ c.args.kinds.now _ (omega arith) _
-    c.loop-k-test.true (sym c.expands.ensures ∙ c.if-expands.true)
-
-pub returns : goal.returns
-returns c =
-    none_expands _ c.args.kinds.now _ (omega arith) (λ k l. c.loop-k.invariant.1 k (omega arith))
+pub returns-then-eq : goal.returns-then-eq
+unfolding serving_prime_by
+returns-then-eq c =
+    let f : ℕ → Bool = expands_by c.args.kinds.now c.args.q in
+    let tried =
+    any_from_yields_List f _ _ c.any.result c.any.ensures.ran (YieldsList-from_range 0 c.args.n c.args.n refl (omega arith)) (λ x b q k. search (rules, tests))
+    ∙ any_in_range f f 0 c.args.n (λ k. ap f (omega arith)) in
+    grind (arith, tried)

@@ -1,7 +1,29 @@
--- `primes::list_marked` meets its contract: there are 3^n cubes. Assumes nothing.
+-- `primes::list_marked` meets its contract: there are 3^n cubes, and the first marks are theirs. Assumes nothing.
+use mathlib.Core.Path.{◌≡◌, ap, ◌∙◌}
+use mathlib.Core.Bool.{Bool, false}
+use mathlib.Core.List.{List}
+use Prim.Native.Nat.{ℕ, ◌≤◌}
 use native.Mathlib.Omega.{arith}
+use lib.ListN.{length, take}
+use lib.Seq.{length-take-le, get_or-take}
+use Rattle.numbers.specs.Below.{those}
+use Rattle.numbers.proofs.Below.{those_same}
+use Rattle.numbers.proofs.Lent.{puts_same}
 use Rattle.cube.proofs.Calls.{cubes_most}
+use Rattle.primes.specs.Steps.{is_marked}
 use Rattle.primes.proofs.list_marked.Goals as goal
 
-pub list_below-requires : goal.list_below-requires
-list_below-requires c = omega (arith, c.cubes.ensures, c.requires, cubes_most c.args.n c.requires.0)
+module _ (marks : List Bool) (m : ℕ) (l : m ≤ length marks) where
+  long : length (take m marks) ≡ m
+  long = length-take-le m marks l
+
+  first_marked : those (length (take m marks)) (is_marked (take m marks)) ≡ those m (is_marked marks)
+  first_marked = ap (λ (k : ℕ). those k (is_marked (take m marks))) long ∙ those_same m (is_marked (take m marks)) (is_marked marks) (λ q h. get_or-take m marks q false h)
+
+pub list_all_marked-requires : goal.list_all_marked-requires
+list_all_marked-requires c = let e = long c.args.marks.now c.cubes.result (omega (arith, c.cubes.ensures)) in omega (arith, e, c.cubes.ensures, cubes_most c.args.n c.requires.0)
+
+pub returns : goal.returns
+returns c =
+    puts_same (first_marked c.args.marks.now c.cubes.result (omega (arith, c.cubes.ensures)) ∙ ap (λ (k : ℕ). those k (is_marked c.args.marks.now)) c.cubes.ensures)
+    c.list_all_marked.ensures

@@ -1,96 +1,116 @@
--- `product::sum` meets its contract: at each turn the sum of the variables before x(i + 1) is written and not closed yet. Assumes nothing.
-use mathlib.Core.Path.{◌≡◌, sym, ap, ◌∙◌, subst}
-use mathlib.Core.List.{List, ◌++◌}
-use Prim.Native.Nat.{ℕ, ◌+◌, ◌<◌, ◌≤◌}
-use native.Mathlib.Omega.{arith}
-use lib.ListN.{length, length-append}
-use Rattle.numbers.specs.Lent.{Puts}
-use Rattle.numbers.proofs.Lent.{puts_none, puts_append, puts_same, puts_long}
-use Rattle.cube.specs.Words.{Row}
-use Rattle.text.specs.Characters.{bytes}
-use Rattle.product.specs.Product.{sum_text, literals_of_variable, literals_from, row_sum}
-use Rattle.product.specs.Steps.{text_behind, open_text, joint_at}
-use Rattle.product.proofs.Writing.{literals_more, open_append, open_shorter, close_empty, close_some, closed-length}
+-- `product::sum` meets its contract: at each turn the literals of the variables from x(i + 1) on are left to write. Assumes nothing.
+use Rattle.std.proofs.Common.{rules, ℕ, ◌+◌, ◌-◌, ◌<◌, ◌≤◌, ◌≡◌, Bool, Option, Some, List, [], ◌∷◌, ◌++◌, length, arith, sym, ap, ap₂, ◌∙◌, append_assoc, length-append, lit<}
+use Rattle.std.proofs.lemmas.Str.{encode_ascii}
+use Prim.Native.Char.{code}
+use Rattle.arrayvec.specs.ArrayString.{ArrayString}
+use Rattle.cube.specs.Words.{Row, digit_of}
+use Rattle.cube.specs.Theorems.{bit_of_variable}
+use Rattle.text.specs.Steps.{digit_number}
+use Rattle.product.specs.Product.{literal_text, sum_text, literals_from, row_sum}
+use Rattle.product.specs.Steps.{literal_of, rest_text, last_character}
+use Rattle.product.proofs.Writing.{all_left, none_tested, one_tested}
 use Rattle.product.proofs.sum.Goals as goal
+use Rattle.product.proofs.sum.Goals.{in-Some, in_default}
 
--- the literals of the first i variables are put into the buffer d from place p on, and the next place is m
-module _ (n value care : ℕ) (d : List ℕ) (p : ℕ) where
-  abbrev row : Row
-  row = record { value = value; care = care }
+module _ (n : ℕ) (r : Row) (all : List ℕ) where
+  -- the literals from x(i + 1) on are left
+  abbrev Left : ℕ → ℕ → List ℕ → Type 0
+  Left i before out = out ++ rest_text before (literals_from n r (n - i) (i + 1)) ≡ all
 
-  none : Puts (open_text (literals_from n row 0 1)) d p d p
-  unfolding literals_from
-  none = puts_none d p
+  same : (i : ℕ) {before before' : ℕ} {out out' : List ℕ} → before' ≡ before → out' ≡ out → Left i before out → Left i before' out'
+  same i b o h = ap₂ (λ (b : ℕ) (o : List ℕ). o ++ rest_text b (literals_from n r (n - i) (i + 1))) b o ∙ h
 
-  module _ (i : ℕ) {e : List ℕ} {m : ℕ} (h : Puts (open_text (literals_from n row i 1)) d p e m) where
-    more : open_text (literals_from n row (i + 1) 1) ≡ open_text (literals_from n row i 1) ++ text_behind (joint_at p m) (literals_of_variable n row (i + 1))
-    more =
-        let same : 1 + i ≡ i + 1 = omega arith in
-        ap open_text (literals_more n row i 1 ∙ ap (λ (k : ℕ). literals_from n row i 1 ++ literals_of_variable n row k) same)
-        ∙ open_append p m (literals_from n row i 1) (literals_of_variable n row (i + 1)) h.behind
+  -- the end
+  module _ (i before : ℕ) (out : List ℕ) (h : Left i before out) (l : n ≤ i) where
+    ends : out ++ last_character before ∷ [] ≡ all
+    unfolding rest_text literals_from
+    ends = let none : n - i ≡ 0 = omega arith in ap (λ (m : ℕ). out ++ rest_text before (literals_from n r m (i + 1))) (sym none) ∙ h
 
-    one : {f : List ℕ} {r : ℕ} → Puts (text_behind (joint_at p m) (literals_of_variable n row (i + 1))) e m f r
-        → Puts (open_text (literals_from n row (i + 1) 1)) d p f r
-    one g = puts_same (sym more) (puts_append h g)
+    last_room : length out + 1 ≤ length all
+    last_room = omega (arith, ap length ends, length-append out (last_character before ∷ []))
 
-    one_room : p + length (sum_text (row_sum n row)) ≤ length d → i < n
-        → m + length (text_behind (joint_at p m) (literals_of_variable n row (i + 1))) ≤ length e
-    one_room room l =
-        omega (
-          arith,
-          ap length more,
-          length-append (open_text (literals_from n row i 1)) (text_behind (joint_at p m) (literals_of_variable n row (i + 1))),
-          open_shorter n row (i + 1) (omega arith),
-          closed-length (row_sum n row),
-          h.behind,
-          puts_long h,
-        )
+  module _ (i before : ℕ) (out : List ℕ) (h : Left i before out) (l : i < n) (t : Option Bool)
+      (e : digit_number t ≡ digit_of (bit_of_variable n (i + 1) r.value) (bit_of_variable n (i + 1) r.care)) where
+    untested : ((c : Bool) → t ≡ Some c → ⊥) → Left (i + 1) before out
+    untested q = ap (λ (l : List ℕ). out ++ l) (sym (none_tested n r i l t e before q)) ∙ h
 
-    all : i ≡ n → Puts (open_text (row_sum n row)) d p e m
-    all q = subst (λ (k : ℕ). Puts (open_text (literals_from n row k 1)) d p e m) q h
+    module _ (c : Bool) (q : t ≡ Some c) where
+      abbrev text : List ℕ
+      text = literal_text (literal_of (i + 1) c)
 
-    last_room : p + length (sum_text (row_sum n row)) ≤ length d → i ≡ n → m < length e
-    last_room room q = omega (arith, (all q).behind, closed-length (row_sum n row), puts_long h)
+      abbrev rest : List ℕ
+      rest = rest_text (code "+") (literals_from n r (n - (i + 1)) (i + 1 + 1))
 
-    empty : {f : List ℕ} {r : ℕ} → i ≡ n → m ≡ p → Puts (bytes "0") e m f r → Puts (sum_text (row_sum n row)) d p f r
-    empty q none g = puts_same (sym (close_empty p m (row_sum n row) (all q).behind none)) (puts_append (all q) g)
+      parts : out ++ ((before ∷ text) ++ rest) ≡ all
+      parts = ap (λ (l : List ℕ). out ++ l) (sym (one_tested n r i l t e before c q)) ∙ h
 
-    some : {f : List ℕ} {r : ℕ} → i ≡ n → (m ≡ p → ⊥) → Puts (bytes ")") e m f r → Puts (sum_text (row_sum n row)) d p f r
-    some q put g = puts_same (sym (close_some p m (row_sum n row) (all q).behind put)) (puts_append (all q) g)
+      room : length out + 1 + length text ≤ length all
+      room = omega (arith, ap length parts, length-append out ((before ∷ text) ++ rest), length-append text rest)
+
+      more : {out' out'' : List ℕ} → out' ≡ out ++ before ∷ [] → out'' ≡ out' ++ text → Left (i + 1) (code "+") out''
+      more d f =
+          ap (λ (l : List ℕ). l ++ rest) (f ∙ ap (λ (l : List ℕ). l ++ text) d ∙ append_assoc out (before ∷ []) text) ∙ append_assoc out (before ∷ text) rest ∙ parts
 
 pub loop-i-init : goal.loop-i-init
-loop-i-init c = (c.requires.0, c.requires.1, omega arith, none c.args.n c.args.value c.args.care c.args.out.now c.args.at)
+loop-i-init g c =
+    let r : Row = c.args.row in
+    let whole : c.args.n - 0 ≡ c.args.n = omega arith in (
+      lit< tt,
+      ap (λ (m : ℕ). c.args.out.now.bytes ++ rest_text (code "(") (literals_from c.args.n r m 1)) whole
+          ∙ ap (λ (l : List ℕ). c.args.out.now.bytes ++ l) (all_left (row_sum c.args.n r)),
+    )
 
-pub variable-place-requires : goal.variable-place-requires
-variable-place-requires c =
+pub push-requires : goal.push-requires
+push-requires g c =
     let a = c.args in
-    let known = c.loop-i.invariant in
-    (known.0, (omega arith, omega arith), one_room a.n a.value a.care a.out.now a.at c.loop-i.i known.3 known.1 (omega arith))
+    let i = c.loop-i in
+    let fits = room a.n a.row _ i.i i.before _ i.invariant.1 c.loop-i-test.true _ c.tested.ensures _ c.in-Some.is in
+    (search rules, omega (arith, fits, length-append a.out.now.bytes (sum_text (row_sum a.n a.row)), ap length (encode_ascii i.before i.invariant.0), c.requires.room))
+
+pub literal-requires : goal.literal-requires
+literal-requires g c =
+    let a = c.args in
+    let i = c.loop-i in
+    let fits = room a.n a.row _ i.i i.before _ i.invariant.1 c.loop-i-test.true _ c.tested.ensures _ c.in-Some.is in (
+      search rules,
+      omega (
+        arith,
+        fits,
+        length-append a.out.now.bytes (sum_text (row_sum a.n a.row)),
+        ap length (c.push.ensures.ascii i.invariant.0),
+        length-append i.out.bytes (i.before ∷ []),
+        c.requires.room,
+      ),
+    )
 
 pub loop-i-preserved : goal.loop-i-preserved
-loop-i-preserved c =
-    let a = c.args in
-    let known = c.loop-i.invariant in
-    (known.0, known.1, omega arith, one a.n a.value a.care a.out.now a.at c.loop-i.i known.3 c.variable-place.ensures)
+loop-i-preserved g c =
+    let n = c.args.n in
+    let r : Row = c.args.row in
+    let i = c.loop-i in
+    elim c.match-tested.branch [
+      | in-Some w ↦ (
+        omega (arith, w.before-is),
+        same n r _ (i.i + 1) w.before-is (ap (λ (o : ArrayString). o.bytes) w.out-is)
+            (more n r _ i.i i.before _ i.invariant.1 c.loop-i-test.true _ c.tested.ensures _ w.in-Some.is (w.push.ensures.ascii i.invariant.0) w.literal.ensures),
+      )
+      | in_default w ↦ (
+        omega (arith, w.before-is, i.invariant.0),
+        same n r _ (i.i + 1) w.before-is (ap (λ (o : ArrayString). o.bytes) w.out-is)
+            (untested n r _ i.i i.before _ i.invariant.1 c.loop-i-test.true _ c.tested.ensures w.in_default.not-Some),
+      )
+    ]
 
-pub byte-requires : goal.byte-requires
-byte-requires c =
+pub push-requires-2 : goal.push-requires-2
+push-requires-2 g c =
     let a = c.args in
-    let known = c.loop-i.invariant in
-    last_room a.n a.value a.care a.out.now a.at c.loop-i.i known.3 known.1 (omega arith)
-
-pub returns-then-place-at : goal.returns-then-place-at
-returns-then-place-at c =
-    let a = c.args in
-    empty a.n a.value a.care a.out.now a.at c.loop-i.i c.loop-i.invariant.3 (omega arith) c.if-place-at.true c.byte.ensures
-
-pub byte-requires-2 : goal.byte-requires-2
-byte-requires-2 c =
-    let a = c.args in
-    let known = c.loop-i.invariant in
-    last_room a.n a.value a.care a.out.now a.at c.loop-i.i known.3 known.1 (omega arith)
+    let i = c.loop-i in
+    let fits = last_room a.n a.row _ i.i i.before _ i.invariant.1 c.loop-i-test.false in
+    (search rules, omega (arith, fits, length-append a.out.now.bytes (sum_text (row_sum a.n a.row)), ap length (encode_ascii c.last.result c.last.ensures.ascii), c.requires.room))
 
 pub returns : goal.returns
-returns c =
+returns g c =
     let a = c.args in
-    some a.n a.value a.care a.out.now a.at c.loop-i.i c.loop-i.invariant.3 (omega arith) c.if-place-at.false c.byte-2.ensures
+    let i = c.loop-i in
+    c.push-2.ensures.ascii c.last.ensures.ascii ∙ ap (λ (b : ℕ). i.out.bytes ++ b ∷ []) c.last.ensures.value
+    ∙ ends a.n a.row _ i.i i.before _ i.invariant.1 c.loop-i-test.false

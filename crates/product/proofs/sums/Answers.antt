@@ -1,90 +1,67 @@
--- `product::sums` meets its contract: no row prints `1`; else at each turn the sums of the rows before i are written. Assumes nothing.
-use mathlib.Core.Path.{◌≡◌, refl, sym, ap, ◌∙◌}
-use mathlib.Core.List.{List, [], ◌∷◌, ◌++◌}
-use Prim.Native.Nat.{ℕ, ◌+◌, ◌<◌, ◌≤◌}
-use native.Mathlib.Omega.{arith}
-use lib.ListN.{length, length-append, length-map}
-use Rattle.numbers.specs.Lent.{Puts}
-use Rattle.numbers.proofs.Lent.{puts_none, puts_append, puts_same, puts_long}
-use Rattle.cube.specs.Words.{rows_of, first_rows}
-use Rattle.cube.proofs.Lists.{row_in, rows_first}
-use Rattle.text.specs.Characters.{line_feed}
-use Rattle.product.specs.Product.{sum_text, product_text, row_sum, product_of, excluding_text}
-use Rattle.product.specs.Steps.{PrintableLine}
-use Rattle.product.proofs.Writing.{sums_of, sums_none, sums_more, sums_shorter, product_text_lem}
+-- `product::sums` meets its contract: no row prints `1`; else at each turn the sums of the rows that are left are left to write. Assumes nothing.
+use Rattle.std.proofs.Common.{rules, ℕ, ◌≡◌, List, [], ◌∷◌, ◌++◌, length, refl, sym, ap, ◌∙◌, arith, length-append}
+use Rattle.std.proofs.lemmas.Slice.Zip.{either_empty_from_Zip}
+use Rattle.std.proofs.lemmas.List.{nil_from_length}
+use Rattle.std.proofs.lemmas.Bool.Decides.{nat_tests}
+use Rattle.cube.specs.Words.{rows_of}
+use Rattle.text.proofs.Rows.{ByRow, none_left, next_left, next_room}
+use Rattle.product.specs.Product.{sum_text, sums_text, product_text, row_sum, product_of, excluding_text}
 use Rattle.product.proofs.sums.Goals as goal
 
--- the rows are the first of two arrays vs and ws, and the buffer is d
-module _ (n : ℕ) (vs ws : List ℕ) (count : ℕ) (d : List ℕ) where
-  -- b is what is put where there is no row
-  no_row : {b : ℕ} {e : List ℕ} {r : ℕ} → Puts (b ∷ []) d 0 e r → b ∷ [] ≡ product_text [] → count ≡ 0
-      → Puts (excluding_text n (first_rows count vs ws)) d 0 e r
+by_row : (n : ℕ) → ByRow (λ rs. sums_text (product_of n rs)) (λ r. sum_text (row_sum n r))
+unfolding sums_text
+by_row n = record { none = refl; more = λ r rs. refl }
+
+module _ (n : ℕ) (vs ws : List ℕ) where
+  -- no row is there
+  none : length vs ≡ 0 → product_text [] ≡ excluding_text n (rows_of vs ws)
   unfolding rows_of
-  no_row h b-is none = puts_same (b-is ∙ ap (λ (k : ℕ). excluding_text n (first_rows k vs ws)) (sym none)) h
+  none e = ap (λ (vs : List ℕ). excluding_text n (rows_of vs ws)) (sym (nil_from_length vs e))
 
-  module _ (p : PrintableLine n vs ws count d) where
-    text_room : length (excluding_text n (first_rows count vs ws)) < length d
-    text_room = omega (arith, length-append (excluding_text n (first_rows count vs ws)) (line_feed ∷ []), p.room)
+  -- some row is there
+  some : (length vs ≡ 0 → ⊥) → length vs ≡ length ws → excluding_text n (rows_of vs ws) ≡ sums_text (product_of n (rows_of vs ws))
+  unfolding rows_of
+  some = go vs ws
+    where
+      go : (vs ws : List ℕ) → (length vs ≡ 0 → ⊥) → length vs ≡ length ws → excluding_text n (rows_of vs ws) ≡ sums_text (product_of n (rows_of vs ws))
+      go [] ws e l = absurd (e refl)
+      go (v ∷ vs) [] e l = absurd (omega arith)
+      go (v ∷ vs) (w ∷ ws) e l = refl
 
-    module _ (some : count ≡ 0 → ⊥) where
-      text_is : excluding_text n (first_rows count vs ws) ≡ sums_of n vs ws count
-      text_is =
-          product_text_lem (product_of n (first_rows count vs ws))
-          (omega (arith, length-map (first_rows count vs ws) (row_sum n), rows_first count vs ws p.values_long p.cares_long))
+pub push_str-requires : goal.push_str-requires
+push_str-requires g c = (search rules, omega (arith, ap length (none c.args.n c.args.rows.values.now c.args.rows.cares.now (grind (arith, nat_tests))), c.requires.room))
 
-      -- the sums of the first i rows are put into the buffer, and the next place is m
-      module _ (i : ℕ) {e : List ℕ} {m : ℕ} (h : Puts (sums_of n vs ws i) d 0 e m) where
-        module _ (l : i < count) where
-          more : sums_of n vs ws (i + 1) ≡ sums_of n vs ws i ++ sum_text (row_sum n (row_in vs ws i))
-          more = sums_more n vs ws i (omega arith) (omega arith)
+pub returns-then-is_empty : goal.returns-then-is_empty
+returns-then-is_empty g c =
+    c.push_str.ensures.bytes ∙ ap (λ (l : List ℕ). c.args.out.now.bytes ++ l) (none c.args.n c.args.rows.values.now c.args.rows.cares.now (grind (arith, nat_tests)))
 
-          one : {f : List ℕ} {r : ℕ} → Puts (sum_text (row_sum n (row_in vs ws i))) e m f r → Puts (sums_of n vs ws (i + 1)) d 0 f r
-          one g = puts_same (sym more) (puts_append h g)
+pub loop-value-init : goal.loop-value-init
+loop-value-init g c = search rules
 
-          one_room : m + length (sum_text (row_sum n (row_in vs ws i))) ≤ length e
-          one_room =
-              omega (
-                arith,
-                ap length more,
-                length-append (sums_of n vs ws i) (sum_text (row_sum n (row_in vs ws i))),
-                sums_shorter n (i + 1) count vs ws (omega arith),
-                ap length text_is,
-                text_room,
-                h.behind,
-                puts_long h,
-              )
-
-        all : i ≡ count → Puts (excluding_text n (first_rows count vs ws)) d 0 e m
-        all q = puts_same (ap (sums_of n vs ws) q ∙ sym text_is) h
-
-pub returns-then-count-eq0 : goal.returns-then-count-eq0
-returns-then-count-eq0 c =
-    let a = c.args in
-    no_row a.n a.values.now a.cares.now a.count a.out.now c.byte.ensures refl c.if-count-eq0.true
-
-pub loop-i-init : goal.loop-i-init
-loop-i-init c =
-    let a = c.args in
-    (c.requires, c.if-count-eq0.false, omega arith, puts_same (sym (sums_none a.n a.values.now a.cares.now)) (puts_none a.out.now 0))
-
-pub sum-place-requires : goal.sum-place-requires
-sum-place-requires c =
-    let a = c.args in
-    let known = c.loop-i.invariant in
-    (known.0.width, one_room a.n a.values.now a.cares.now a.count a.out.now known.0 known.1 c.loop-i.i known.3 (omega arith))
-
-pub loop-i-preserved : goal.loop-i-preserved
-loop-i-preserved c =
-    let a = c.args in
-    let known = c.loop-i.invariant in (
-      known.0,
-      known.1,
-      omega arith,
-      one a.n a.values.now a.cares.now a.count a.out.now known.0 known.1 c.loop-i.i known.3 (omega arith) c.sum-place.ensures,
+pub sum-requires : goal.sum-requires
+sum-requires g c =
+    let n = c.args.n in
+    let room = next_room (by_row n) _ _ c.in-Some.ensures.steps.0 c.in-Some.ensures.steps.1 c.loop-value.invariant in
+    let all = some n c.args.rows.values.now c.args.rows.cares.now (grind (arith, nat_tests)) c.args.rows.paired in (
+      search rules,
+      (
+        c.requires.width,
+        omega (
+          arith,
+          room,
+          ap length all,
+          length-append c.args.out.now.bytes (sums_text (product_of n (rows_of c.args.rows.values.now c.args.rows.cares.now))),
+          c.requires.room,
+        ),
+      ),
     )
 
+pub loop-value-preserved : goal.loop-value-preserved
+loop-value-preserved g c =
+    next_left (by_row c.args.n) _ _ c.in-Some.ensures.steps.0 c.in-Some.ensures.steps.1 c.loop-value.invariant c.sum.ensures
+
 pub returns : goal.returns
-returns c =
-    let a = c.args in
-    let known = c.loop-i.invariant in
-    all a.n a.values.now a.cares.now a.count a.out.now known.0 known.1 c.loop-i.i known.3 (omega arith)
+returns g c =
+    none_left (by_row c.args.n) _ _ _ _ (either_empty_from_Zip c.loop-value.value-iterator c.next.new.self _ c.in-None.is c.next.ensures.steps)
+    c.loop-value.invariant
+    ∙ ap (λ (l : List ℕ). c.args.out.now.bytes ++ l) (sym (some c.args.n c.args.rows.values.now c.args.rows.cares.now (grind (arith, nat_tests)) c.args.rows.paired))

@@ -3,11 +3,11 @@
 use mathlib.Core.Path.{◌≡◌}
 use Rattle.covering.specs.Weighted.{set_size}
 use Rattle.matrix.specs.Sets.{member}
-use Rattle.reduction.specs.Reduction.{ReducedTo}
+use Rattle.reduction.specs.Reduction.{Reduces}
 use Rattle.reduction.proofs.cyclic_core.Given as goal
 
 abbrev pub invariant-loop-size : goal.invariant-loop-size
-invariant-loop-size l = ReducedTo l.words l.weights l.initial.state.live l.undecided l.state × (l.size ≡ set_size l.end (member l.state.live))
+invariant-loop-size l = Reduces l.problem.matrix.words.now l.problem.matrix.weights.now l.problem.live.now l.problem.undecided l.state × (l.size ≡ set_size l.end (member l.state.live))
 
 abbrev pub decreases-loop-size : goal.decreases-loop-size
 decreases-loop-size l = l.size

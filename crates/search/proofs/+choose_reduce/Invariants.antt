@@ -6,7 +6,7 @@ use Rattle.matrix.specs.Sets.{row_limit, member}
 use Rattle.search.proofs.+choose_reduce.Given as goal
 
 abbrev pub decreases-choose : goal.decreases-choose
-decreases-choose l = 2 * set_size row_limit (member l.live)
+decreases-choose l = 2 * set_size row_limit (member l.problem.now.live.now)
 
 abbrev pub decreases-reduce : goal.decreases-reduce
-decreases-reduce l = 2 * set_size row_limit (member l.live) + 1
+decreases-reduce l = 2 * set_size row_limit (member l.problem.now.live.now) + 1

@@ -2,14 +2,14 @@
 use Rattle.streams.proofs.Pieces.{read_none, read_wrong, read_more}
 use Rattle.streams.proofs.read_all.Goals as goal
 
-pub loop-turns-init : goal.loop-turns-init
-loop-turns-init g c = read_none _ c.requires
+pub loop-init : goal.loop-init
+loop-init g c = read_none c.new-reader.ensures
 
-pub returns-in-Last : goal.returns-in-Last
-returns-in-Last g c = read_more _ _ _ _ _ _ _ c.in-Last.is c.take_turn.ensures c.loop-turns.invariant
+pub returns-then-is_break : goal.returns-then-is_break
+returns-then-is_break g c = read_more _ _ c.take_turn.ensures.state c.loop.invariant
 
-pub loop-turns-preserved : goal.loop-turns-preserved
-loop-turns-preserved g c = read_more _ _ _ _ _ _ _ c.in-More.is c.take_turn.ensures c.loop-turns.invariant
+pub loop-preserved : goal.loop-preserved
+loop-preserved g c = read_more _ _ c.take_turn.ensures.state c.loop.invariant
 
 pub returns : goal.returns
-returns g c = read_wrong c.loop-turns.invariant
+returns g c = read_wrong c.fail.ensures

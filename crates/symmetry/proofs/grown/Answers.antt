@@ -1,27 +1,24 @@
--- `symmetry::grown` meets its contract. The invariant: the live rows before i have images, and those whose images were found are added. Assumes nothing.
-use borrow.Author.Rules.{rules}
-use native.Mathlib.Omega.{arith}
-use mathlib.Core.Path.{sym, ap, ◌∙◌}
-use Rattle.matrix.specs.Sets.{RowSet, member}
+-- `symmetry::grown` meets its contract: what an item and the end of the loop tell. Assumes nothing.
+use Rattle.std.proofs.Common.{arith, sym, ◌∙◌}
+use Rattle.matrix.proofs.Loops.{rows_turn, rows_end_has}
 use Rattle.symmetry.proofs.Growing.{passed_found, passed_other, grown_all}
 use Rattle.symmetry.proofs.grown.Goals as goal
-use Rattle.symmetry.proofs.grown.Goals.{then-has, else-has}
+
+pub loop-i-preserved-then-contains : goal.loop-i-preserved-then-contains
+loop-i-preserved-then-contains c =
+    let turn = rows_turn _ _ _ _ _ _ _ _ c.into_iter-i-iterator.ensures.into_iter_gives c.iter-i-items.ensures.end c.iter-i-items.ensures.set
+    c.loop-i.yielded_by c.next.ensures.steps c.in-Some.i c.in-Some.is in
+    passed_found _ _ _ _ _ c.in-Some-image.ensures.image turn c.loop-i.invariant (sym c.contains.ensures ∙ c.if-contains.true) c.insert.ensures
 
 pub loop-i-preserved : goal.loop-i-preserved
 loop-i-preserved c =
-    let i = c.loop-i.invariant in
-    let image = c.image-j.ensures (omega (arith, c.if-end-j.false, c.row_count-end.ensures)) in (
-      search rules,
-      c.next-i-in-loop-i.ensures.here,
-      elim c.if-has.branch [
-        | then-has w ↦
-            passed_found _ _ _ _ _ image c.next-i-in-loop-i.ensures i.2 (i.1 c.loop-i-test.true) (sym c.has.ensures ∙ w.if-has.true)
-            (λ m. ap (λ (s : RowSet). member s m) w.more-is ∙ w.with_row-one_more.ensures m)
-        | else-has w ↦ passed_other _ _ _ _ _ image c.next-i-in-loop-i.ensures i.2 w.more-is
-      ],
-    )
+    let turn = rows_turn _ _ _ _ _ _ _ _ c.into_iter-i-iterator.ensures.into_iter_gives c.iter-i-items.ensures.end c.iter-i-items.ensures.set
+    c.loop-i.yielded_by c.next.ensures.steps c.in-Some.i c.in-Some.is in
+    passed_other _ _ _ _ _ c.in-Some-image.ensures.image turn c.loop-i.invariant
 
 pub returns : goal.returns
 returns c =
-    grown_all _ _ _ _ _ (λ x h. sym (c.exchanged.ensures x) ∙ c.inside.ensures.all c.if-not-inside.false x h)
-    (omega (arith, c.loop-i-test.false, c.row_count-end.ensures)) c.loop-i.invariant.2
+    let ended = rows_end_has _ _ _ _ _ _ _ _ c.into_iter-i-iterator.ensures.into_iter_gives c.iter-i-items.ensures.end c.iter-i-items.ensures.set
+    c.loop-i.yielded_by c.next.ensures.steps c.in-None.is in
+    grown_all _ _ _ _ _ (λ x h. sym (c.of_set.ensures x) ∙ c.is_subset.ensures.all c.if-not-is_subset.false x h)
+    (λ i l a. ended.all i (omega (arith, c.rows.ensures.is)) a) c.loop-i.invariant

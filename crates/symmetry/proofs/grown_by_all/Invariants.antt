@@ -1,10 +1,9 @@
 -- `symmetry::grown_by_all` meets its contract. The invariant: the exchanges so far made the rows grow. Assumes nothing.
-use Prim.Native.Nat.{◌-◌}
-use Rattle.symmetry.specs.Steps.{exchange_count, Grown}
+use Rattle.symmetry.specs.Steps.{Grown}
 use Rattle.symmetry.proofs.grown_by_all.Given as goal
 
-abbrev pub invariant-loop-k : goal.invariant-loop-k
-invariant-loop-k l = Grown l.words l.weights l.live l.undecided l.initial.more l.more
+abbrev pub invariant-loop-a : goal.invariant-loop-a
+invariant-loop-a l = Grown l.problem.matrix.words.now l.problem.matrix.weights.now l.problem.live.now l.problem.undecided l.found l.more
 
-abbrev pub decreases-loop-k : goal.decreases-loop-k
-decreases-loop-k l = exchange_count - l.k
+abbrev pub invariant-loop-b : goal.invariant-loop-b
+invariant-loop-b l = Grown l.problem.matrix.words.now l.problem.matrix.weights.now l.problem.live.now l.problem.undecided l.found l.more

@@ -1,17 +1,16 @@
--- `symmetry::orbit` meets its contract. The invariant: the rows found are of one orbit, and `size` is their number, which rises in each round but the last.
--- Assumes nothing.
-use native.Mathlib.Omega.{arith}
+-- `symmetry::orbit` ends: there are more rows after each round but the last. Assumes nothing.
+use Rattle.std.proofs.Common.{arith}
 use Rattle.matrix.proofs.Without.{size_fewer, size_most}
 use Rattle.symmetry.proofs.orbit.Goals as goal
 
-pub loop-size-smaller : goal.loop-size-smaller
-loop-size-smaller c =
-    let end = c.row_count-end.result in
+pub loop-more-smaller : goal.loop-more-smaller
+loop-more-smaller c =
+    let end = c.rows-end.result in
     omega (
       arith,
-      c.size-larger.ensures,
-      c.loop-size.invariant.1,
-      c.if-larger-size.false,
+      c.len.ensures,
+      c.len-in-loop-more.ensures,
+      c.if-len.false,
       size_fewer end _ _ c.grown_by_all-more.ensures.kept,
       size_most end c.grown_by_all-more.result,
     )

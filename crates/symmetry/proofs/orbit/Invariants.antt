@@ -1,14 +1,12 @@
--- `symmetry::orbit` meets its contract. The invariant: the rows found are of one orbit, and `size` is their number, which rises in each round but the last.
--- Assumes nothing.
-use mathlib.Core.Path.{◌≡◌}
-use Prim.Native.Nat.{◌-◌}
+-- `symmetry::orbit` meets its contract. The invariant: the rows found are of one orbit. There are more of them after each round but the last. Assumes nothing.
+use Rattle.std.proofs.Common.{◌-◌}
 use Rattle.covering.specs.Weighted.{set_size}
 use Rattle.matrix.specs.Sets.{member}
 use Rattle.symmetry.specs.Symmetry.{Orbit}
 use Rattle.symmetry.proofs.orbit.Given as goal
 
-abbrev pub invariant-loop-size : goal.invariant-loop-size
-invariant-loop-size l = Orbit l.words l.weights l.live l.undecided l.r l.found × (l.size ≡ set_size l.end (member l.found))
+abbrev pub invariant-loop-more : goal.invariant-loop-more
+invariant-loop-more l = Orbit l.problem.matrix.words.now l.problem.matrix.weights.now l.problem.live.now l.problem.undecided l.r l.found
 
-abbrev pub decreases-loop-size : goal.decreases-loop-size
-decreases-loop-size l = l.end - l.size
+abbrev pub decreases-loop-more : goal.decreases-loop-more
+decreases-loop-more l = l.end - set_size l.end (member l.found)

@@ -1,10 +1,7 @@
--- `bound::certificate::weight_range` meets its contract. The invariant: the weights of the live rows before i lie in the range. Assumes nothing.
-use Rattle.std.proofs.Common.{◌-◌, ◌≤◌}
+-- `bound::certificate::weight_range` meets its contract. The invariant: the weights of the live rows that were passed lie in the range. Assumes nothing.
+use Rattle.numbers.specs.Ascending.{passed}
 use Rattle.bound.specs.Steps.{Ranges}
 use Rattle.bound.proofs.certificate.weight_range.Given as goal
 
 abbrev pub invariant-loop-i : goal.invariant-loop-i
-invariant-loop-i l = (l.i ≤ l.end) × Ranges l.weights l.live l.i l.least l.most
-
-abbrev pub decreases-loop-i : goal.decreases-loop-i
-decreases-loop-i l = l.end - l.i
+invariant-loop-i l = Ranges l.problem.matrix.weights.now l.problem.live.now (passed l.yielded) l.least l.most

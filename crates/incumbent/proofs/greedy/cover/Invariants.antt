@@ -1,10 +1,15 @@
--- `incumbent::greedy::cover` is safe and ends: it takes at most a row for each column. Assumes nothing.
-use Rattle.std.proofs.Common.{◌-◌, ◌≤◌}
-use Rattle.matrix.specs.Sets.{column_limit}
+-- `incumbent::greedy::cover` meets its contract. The invariant: the rows taken are live ones. Each turn takes one more. Assumes nothing.
+use Rattle.std.proofs.Common.{ℕ, ◌-◌}
+use Rattle.covering.specs.Weighted.{set_size}
+use Rattle.matrix.specs.Sets.{row_limit, member, Member}
+use Rattle.incumbent.specs.Steps.{Counted}
 use Rattle.incumbent.proofs.greedy.cover.Given as goal
 
-abbrev pub invariant-loop-n : goal.invariant-loop-n
-invariant-loop-n l = l.n ≤ column_limit
+abbrev pub invariant-loop-matrix : goal.invariant-loop-matrix
+invariant-loop-matrix l = record {
+  counted : Counted l.problem.matrix.words.now l.problem.matrix.weights.now l.taken;
+  live : (i : ℕ) → Member l.taken.rows i → Member l.problem.live.now i;
+}
 
-abbrev pub decreases-loop-n : goal.decreases-loop-n
-decreases-loop-n l = column_limit - l.n
+abbrev pub decreases-loop-matrix : goal.decreases-loop-matrix
+decreases-loop-matrix l = row_limit - set_size row_limit (member l.taken.rows)

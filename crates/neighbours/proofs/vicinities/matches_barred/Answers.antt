@@ -1,16 +1,13 @@
--- `neighbours::vicinities::matches_barred` meets its contract: no code before x is barred and agrees. Assumes nothing.
-use mathlib.Core.Path.{sym, ◌∙◌}
-use native.Mathlib.Omega.{arith}
-use Rattle.numbers.proofs.Below.{some_found, some_none}
-use Rattle.neighbours.specs.Steps.{barred_match}
+-- `neighbours::vicinities::matches_barred` meets its contract: what `any` answers over the codes. Assumes nothing.
+use Rattle.std.proofs.Common.{◌∙◌, tests, rules, eqb, ◌&&◌, bit_and}
+use Rattle.std.proofs.lemmas.Iterator.{YieldsList-from_slice}
+use Rattle.std.proofs.lemmas.Iterator.Consumers.{YieldsList-from_enumerate}
+use Rattle.std.proofs.lemmas.Iterator.Search.{any_from_yields_List}
+use Rattle.neighbours.proofs.Scanning.{some_cell}
 use Rattle.neighbours.proofs.vicinities.matches_barred.Goals as goal
-
-pub returns-then-is_barred_match : goal.returns-then-is_barred_match
-returns-then-is_barred_match c =
-    let s = c.args in
-    sym (some_found _ (barred_match s.table.now s.c s.bits) _ c.loop-x-test.true (sym c.is_barred_match.ensures ∙ c.if-is_barred_match.true))
 
 pub returns : goal.returns
 returns c =
-    let s = c.args in
-    sym (some_none _ (barred_match s.table.now s.c s.bits) (λ k l. c.loop-x.invariant.1 k (omega arith)))
+    any_from_yields_List (λ p. eqb p.1 0 && eqb (bit_and p.0 c.args.bits) (bit_and c.args.c c.args.bits)) _ _ _ c.any.ensures.ran
+    (YieldsList-from_enumerate (YieldsList-from_slice c.args.table.cells.now cc) cc) (λ x b q k. search (rules, tests))
+    ∙ some_cell _ c.args.table.cells.now

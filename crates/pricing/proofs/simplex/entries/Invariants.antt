@@ -1,9 +1,6 @@
--- `pricing::simplex::entries` meets its contract: the row moves on, and there are no more entries than rows passed. Assumes nothing.
-use Rattle.std.proofs.Common.{◌-◌, ◌≤◌}
+-- `pricing::simplex::entries` meets its contract: there are no more entries than rows passed. Assumes nothing.
+use Rattle.std.proofs.Common.{◌≤◌}
 use Rattle.pricing.proofs.simplex.entries.Given as goal
 
-abbrev pub invariant-loop-i : goal.invariant-loop-i
-invariant-loop-i l = (l.i ≤ l.rows) × (l.n ≤ l.i)
-
-abbrev pub decreases-loop-i : goal.decreases-loop-i
-decreases-loop-i l = l.rows - l.i
+abbrev pub invariant-loop-line : goal.invariant-loop-line
+invariant-loop-line l = l.n ≤ l.line-index

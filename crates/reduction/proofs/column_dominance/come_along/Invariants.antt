@@ -1,10 +1,7 @@
--- `reduction::column_dominance::come_along` meets its contract. The invariant: it holds of the live rows before i. Assumes nothing.
-use Prim.Native.Nat.{◌≤◌, ◌-◌}
+-- `reduction::column_dominance::come_along` meets its contract. The invariant: it holds of the live rows that were passed. Assumes nothing.
+use Rattle.numbers.specs.Ascending.{passed}
 use Rattle.reduction.specs.Steps.{Along}
 use Rattle.reduction.proofs.column_dominance.come_along.Given as goal
 
 abbrev pub invariant-loop-i : goal.invariant-loop-i
-invariant-loop-i l = (l.i ≤ l.end) × Along l.words l.live l.undecided l.i l.along
-
-abbrev pub decreases-loop-i : goal.decreases-loop-i
-decreases-loop-i l = l.end - l.i
+invariant-loop-i l = Along l.problem.matrix.words.now l.problem.live.now l.problem.undecided (passed l.yielded) l.along

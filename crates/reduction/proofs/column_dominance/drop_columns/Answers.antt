@@ -1,21 +1,18 @@
 -- `reduction::column_dominance::drop_columns` meets its contract. The invariant: the columns kept are undecided ones, and dropping the others is a
 -- reduction, whatever the weights. Assumes nothing.
-use borrow.Author.Rules.{rules}
-use Rattle.matrix.specs.Sets.{has}
+use Rattle.std.proofs.Common.{◌<◌, sym, ◌∙◌, arith}
+use Rattle.matrix.specs.Sets.{column_limit, has, In}
 use Rattle.numbers.proofs.Flags.{kept_of_lem}
 use Rattle.reduction.proofs.Narrowing.{drop_along}
 use Rattle.reduction.proofs.Steps.{keeps_then}
 use Rattle.reduction.proofs.column_dominance.drop_columns.Goals as goal
 
-pub loop-d-preserved : goal.loop-d-preserved
-loop-d-preserved c =
-    let words = c.args.words.now in
-    let spare = c.without in
-    let kept = c.without-kept.ensures in (
-      search rules,
-      c.next-d-in-loop-d.ensures.here,
-      λ x h. c.loop-d.invariant.2 x (kept_of_lem (has c.loop-d.kept x) (has spare.result x) (kept x) h).0,
-      λ weights. keeps_then words weights _ _ _ _ _ _ (c.loop-d.invariant.3 weights)
-          (drop_along words weights _ c.come_along-along.result _ _ _ _ _ _ c.come_along-along.ensures c.loop-d.invariant.2
-          (c.loop-d.invariant.1 c.loop-d-test.true) c.only.ensures spare.ensures kept),
+pub loop-d-preserved-then-contains : goal.loop-d-preserved-then-contains
+loop-d-preserved-then-contains c =
+    let is : In c.loop-d.kept c.in-Some.d = sym c.contains.ensures ∙ c.if-contains.true in
+    let below : c.in-Some.d < column_limit = c.into_iter-d-iterator.ensures.into_iter_gives.1 c.in-Some.d (c.loop-d.invariant.0 c.in-Some.d is) in (
+      λ x h. c.loop-d.invariant.0 x (kept_of_lem (has c.loop-d.kept x) (has c.sub.result x) (c.sub-kept.ensures x) h).0,
+      λ weights. keeps_then c.args.problem.now.matrix.words.now weights _ _ _ _ _ _ (c.loop-d.invariant.1 weights)
+          (drop_along _ _ _ c.come_along-along.result _ _ _ _ _ _ _ (omega arith) c.come_along-along.ensures c.loop-d.invariant.0 is c.only.ensures c.sub.ensures
+          c.sub-kept.ensures),
     )

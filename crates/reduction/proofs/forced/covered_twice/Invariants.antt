@@ -1,10 +1,12 @@
--- `reduction::forced::covered_twice` meets its contract. The invariant: the columns of the live rows before i are counted. Assumes nothing.
-use Prim.Native.Nat.{◌≤◌, ◌-◌}
-use Rattle.reduction.proofs.Counting.{CoveredSoFar}
+-- `reduction::forced::covered_twice` meets its contract. The invariant: of the live rows that were passed all columns are in `once`, and those that two of them
+-- cover are in `twice`. Assumes nothing.
+use Rattle.std.proofs.Common.{ℕ, ◌<◌}
+use Rattle.numbers.specs.Ascending.{passed}
+use Rattle.matrix.specs.Sets.{In, Member}
+use Rattle.matrix.specs.Matrix.{CoversColumn}
 use Rattle.reduction.proofs.forced.covered_twice.Given as goal
 
 abbrev pub invariant-loop-i : goal.invariant-loop-i
-invariant-loop-i l = (l.i ≤ l.end) × CoveredSoFar l.words l.live l.i l.coverage.once l.coverage.twice
-
-abbrev pub decreases-loop-i : goal.decreases-loop-i
-decreases-loop-i l = l.end - l.i
+invariant-loop-i l =
+    ((i : ℕ) → i < passed l.yielded → Member l.live i → (c : ℕ) → CoversColumn l.matrix.words.now i c → In l.coverage.once c)
+    × ((i j : ℕ) → i < passed l.yielded → j < i → Member l.live i → Member l.live j → (c : ℕ) → CoversColumn l.matrix.words.now i c → CoversColumn l.matrix.words.now j c → In l.coverage.twice c)

@@ -1,47 +1,31 @@
--- `text::output::list` meets its contract: the lines and then the totals, for which the buffer has room. Assumes nothing.
-use mathlib.Core.List.{List, ◌++◌}
-use Prim.Native.Nat.{ℕ, ◌+◌, ◌≤◌}
-use native.Mathlib.Omega.{arith}
-use lib.ListN.{length, length-append}
-use Rattle.cube.specs.Words.{first_rows}
-use Rattle.cube.proofs.Lists.{rows_first}
+-- `text::output::list` meets its contract: there is room for the lines of the most rows and then for the totals. Assumes nothing.
+use Rattle.std.proofs.Common.{ℕ, ◌≤◌, ◌<◌, ◌≡◌, ◌++◌, [], ◌+◌, ◌^◌, List, length, arith, ap, ◌∙◌, lit<}
+use Rattle.cube.specs.Words.{rows_of}
+use Rattle.cube.proofs.Lists.{rows_length}
 use Rattle.text.specs.Output.{list_lines, totals_line}
-use Rattle.text.specs.Steps.{Printable}
-use Rattle.std.proofs.Common.{Fits, w64}
-use Rattle.numbers.proofs.Lent.{puts_append}
-use Rattle.text.proofs.Lines.{puts_front, room_second, lines_length, totals_length}
+use Rattle.text.specs.Steps.{Printable, most_output}
+use Rattle.text.proofs.Lines.{lines_length, totals_length}
 use Rattle.text.proofs.output.list.Goals as goal
 
--- the lines of the first rows of two arrays and their totals
-module _ (n : ℕ) (values cares : List ℕ) (count bits : ℕ) where
-  abbrev given : List ℕ
-  given = list_lines n (first_rows count values cares)
-
-  room : {out : List ℕ} → Printable n values cares count out → Fits w64 count → Fits w64 bits → length (given ++ totals_line count bits) ≤ length out
-  room h c b =
+module _ (n : ℕ) (values cares : List ℕ) (bits : ℕ) (p : Printable n (length values)) (same : length values ≡ length cares) (l : bits < 2 ^ 64) where
+  room : length (list_lines n (rows_of values cares)) + length (totals_line (length values) bits) ≤ most_output
+  room =
       omega (
         arith,
-        length-append given (totals_line count bits),
-        lines_length n (first_rows count values cares) h.width,
-        rows_first count values cares h.values_long h.cares_long,
-        totals_length count bits (omega (arith, c.fits)) (omega (arith, b.fits)),
-        h.few,
-        h.room,
+        lines_length n (rows_of values cares) p.width,
+        rows_length values cares same,
+        p.few,
+        totals_length (length values) bits (omega (arith, p.few)) l,
       )
 
-  from_front : {out : List ℕ} → Printable n values cares count out → Fits w64 count → Fits w64 bits → 0 + length (given ++ totals_line count bits) ≤ length out
-  from_front h c b = omega (arith, room h c b)
+  first_room : (out : List ℕ) → out ≡ [] → length out + length (list_lines n (rows_of values cares)) ≤ most_output
+  first_room out e = omega (arith, ap length e, room)
+
+  second_room : (out out' : List ℕ) → out ≡ [] → out' ≡ out ++ list_lines n (rows_of values cares) → length out' + length (totals_line (length values) bits) ≤ most_output
+  second_room out out' e f = omega (arith, ap length (f ∙ ap (λ (l : List ℕ). l ++ list_lines n (rows_of values cares)) e), room)
+
+pub lines-requires : goal.lines-requires
+lines-requires c = (lit< tt, (c.requires.width, first_room _ _ _ c.args.bits c.requires c.args.rows.paired (omega arith) _ c.new-out.ensures))
 
 pub totals-requires : goal.totals-requires
-totals-requires c =
-    let a = c.args in
-    let g : List ℕ = given a.n a.values.now a.cares.now a.count a.bits in
-    room_second {xs = g} (totals_line a.count a.bits) c.rows-at.ensures
-    (from_front a.n a.values.now a.cares.now a.count a.bits c.requires c.ranges.count c.ranges.bits)
-
-pub returns : goal.returns
-returns c =
-    let a = c.args in
-    let g : List ℕ = given a.n a.values.now a.cares.now a.count a.bits in
-    puts_front (room a.n a.values.now a.cares.now a.count a.bits c.requires c.ranges.count c.ranges.bits)
-    (puts_append {xs = g} c.rows-at.ensures c.totals.ensures)
+totals-requires c = (lit< tt, second_room _ _ _ _ c.requires c.args.rows.paired (omega arith) _ _ c.new-out.ensures c.lines.ensures)

@@ -1,28 +1,36 @@
--- `text::output::refusal` meets its contract: a word, its number and a line feed, one after the other. Assumes nothing.
-use mathlib.Core.List.{List, [], ◌∷◌, ◌++◌}
-use Prim.Native.Nat.{ℕ, ◌+◌, ◌≤◌}
-use native.Mathlib.Omega.{arith}
-use Rattle.std.proofs.Common.{Fits, w8}
-use lib.ListN.{length}
+-- `text::output::refusal` meets its contract: there is room for a number of three digits. Assumes nothing.
+use Rattle.std.proofs.Common.{rules, ◌≤◌, ◌<◌, ◌^◌, ◌≡◌, ◌++◌, [], ◌∷◌, ◌∙◌, List, ℕ, length, arith, ap, length-append, lit<, ◌+◌}
+use Rattle.std.proofs.lemmas.Str.{encode_ascii}
 use Rattle.text.specs.Characters.{bytes, line_feed}
-use Rattle.text.specs.Output.{in_decimal, refused}
-use Rattle.text.specs.Steps.{most_output}
-use Rattle.numbers.proofs.Lent.{puts_append}
-use Rattle.text.proofs.Lines.{puts_front, room_first, room_last, refused-length}
+use Rattle.text.specs.Output.{in_decimal}
+use Rattle.text.specs.Steps.{most_refusal}
+use Rattle.text.proofs.Lines.{refused-length}
 use Rattle.text.proofs.output.refusal.Goals as goal
 
-room : (k : ℕ) (out : List ℕ) → Fits w8 k → most_output ≤ length out → length (refused k) ≤ length out
-room k out h l = omega (arith, refused-length k (omega (arith, h.fits)))
+module _ (k j : ℕ) (l : k < 2 ^ 8) (e : j ≡ k) (out : List ℕ) (none : out ≡ []) where
+  room : (text : List ℕ) → text ≡ out ++ bytes "refused " → length text + length (in_decimal j) + 1 ≤ most_refusal
+  room text is =
+      omega (
+        arith,
+        ap length (is ∙ ap (λ (l : List ℕ). l ++ bytes "refused ") none),
+        ap (λ (i : ℕ). length (in_decimal i)) e,
+        refused-length k l,
+        length-append (bytes "refused " ++ in_decimal k) (line_feed ∷ []),
+        length-append (bytes "refused ") (in_decimal k),
+      )
 
-from_front : (k : ℕ) (out : List ℕ) → Fits w8 k → most_output ≤ length out → 0 + length (refused k) ≤ length out
-from_front k out h l = omega (arith, room k out h l)
+pub number-requires-2 : goal.number-requires-2
+number-requires-2 g c = (search rules, omega (arith, room _ _ (omega arith) c.from.ensures _ c.new-out.ensures _ c.push_str.ensures.bytes, c.requires))
 
-pub number-last-requires : goal.number-last-requires
-number-last-requires c =
-    room_first (bytes "refused " ++ in_decimal c.args.k) (line_feed ∷ []) c.args.out.now 0 (from_front _ _ c.ranges.k c.requires)
-
-pub line_feed-requires : goal.line_feed-requires
-line_feed-requires c = room_last line_feed c.number-last.ensures (from_front _ _ c.ranges.k c.requires)
-
-pub returns : goal.returns
-returns c = puts_front (room _ _ c.ranges.k c.requires) (puts_append c.number-last.ensures c.line_feed.ensures)
+pub push-requires : goal.push-requires
+push-requires g c = (
+  search rules,
+  omega (
+    arith,
+    room _ _ (omega arith) c.from.ensures _ c.new-out.ensures _ c.push_str.ensures.bytes,
+    ap length c.number-2.ensures,
+    length-append c.push_str.new.self.bytes (in_decimal c.from.result),
+    ap length (encode_ascii line_feed (lit< tt)),
+    c.requires,
+  ),
+)

@@ -1,2 +1,0 @@
--- The lengths of two arrays that are not refused.
-pub mod Lengths

@@ -1,7 +1,0 @@
--- `matrix::rows::none` meets its contract: words of 0 have no bit. Assumes nothing.
-use Rattle.matrix.specs.Sets.{row_words}
-use Rattle.matrix.proofs.Members.{member_none}
-use Rattle.matrix.proofs.rows.none.Goals as goal
-
-pub returns : goal.returns
-returns c = member_none row_words

@@ -1,0 +1,35 @@
+// What is left of a covering problem, and a row taken from it.
+ghost use Rattle.std.specs.Prelude.{◌+◌, ◌*◌, ◌≤◌, ◌<◌};
+ghost use Rattle.covering.specs.Weighted.{set_size};
+ghost use Rattle.matrix.specs.Sets.{row_limit, member, Member};
+ghost use Rattle.matrix.specs.Matrix.{row_count, weight_limit};
+
+use matrix::{Matrix, columns, rows};
+
+// What is left of a covering problem: the live rows and the undecided columns, with the rows taken and what those weigh. What they weigh, and `weight_limit`
+// for each live row, are together at most `row_limit * weight_limit`.
+#[derive(Clone, Copy)]
+pub struct Remaining {
+    pub live: rows::Set,
+    pub undecided: columns::Set,
+    pub taken: rows::Set,
+    pub cost: u64,
+    pub ghost room: { cost + set_size row_limit (member live) * weight_limit ≤ row_limit * weight_limit },
+}
+
+impl Remaining {
+    ghost use Rattle.reduction.specs.Steps.{RowTaken};
+
+    // Takes the live row r: it is no longer live, its columns are decided, and its weight is counted.
+    #[tactic(auto, using(matrix::proofs::Without::left_size))]
+    pub fn take_row(&mut self, matrix: Matrix, r: usize)
+        requires row { r < row_count matrix.words.now }
+        requires lives { Member self.old.live r }
+        ensures { RowTaken matrix.entry.words.now matrix.entry.weights.now self.old r self.new }
+    {
+        self.live.remove(r);
+        self.undecided = self.undecided - matrix.columns_of(r);
+        self.taken.insert(r);
+        self.cost += matrix.weight(r);
+    }
+}
