@@ -21,7 +21,7 @@ pub enum Built {
     KeepOut(Totals),
 }
 
-// A list in two arrays of its own, which have places for the widest one, with its totals.
+// A list in two arrays of its own, which have places for the widest one, with its totals. They are arrays since Plan writes into arrays, as C lends them.
 #[derive(Clone, Copy)]
 struct Draft {
     totals: Totals,

@@ -1,5 +1,5 @@
-// Every call for the installer, which is in C: numbers and lent memory go in, one number comes out. `include/rows.h` declares
-// the functions, and `rt lib` makes the library.
+// Every call for the installer, which is in C: numbers and lent memory go in, one number comes out. Each has a function of its own, since C calls it
+// by name. `include/rows.h` declares the functions, and `rt lib` makes the library.
 //
 //     rows_plan(2, table, 4, values, 2, cares, 2)      // for the table 0 1 1 1: 20002, two rows with two tested bits
 //     rows_primes(2, table, 4, cubes, 9)               // for the same table: 2, and the first places hold 5 (12) and 7 (21)

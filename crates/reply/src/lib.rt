@@ -26,6 +26,8 @@ impl Program<MOST_OUTPUT> for RowsReply {
 
     ghost room = { lit≤ tt };
 
+    // Two arrays, as C lends them to Plan. Not one function with that of `sums_reply`: it would take the call as a closure, with what the call promises beside it,
+    // for these lines.
     fn show(n: usize, cells: &[u8]) -> Result<ArrayString<MOST_OUTPUT>, Refusal> {
         let mut values = [0u8; MOST_CODE_PAIRS];
         let mut cares = [0u8; MOST_CODE_PAIRS];

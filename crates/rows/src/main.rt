@@ -5,6 +5,7 @@
 use reply::RowsReply;
 use text::output::MOST_OUTPUT;
 
+// Not one function with the main of `sums`: what differs, the program, its longest text and its complaint, is all that they say.
 fn main(rt: HostRuntime) {
     let text = streams::answer::<RowsReply, _, MOST_OUTPUT>(&mut rt.stdin());
     streams::send::<RowsReply, _, _, MOST_OUTPUT>(

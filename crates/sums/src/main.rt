@@ -5,6 +5,7 @@
 use product::MOST_LINE;
 use sums_reply::SumsReply;
 
+// Not one function with the main of `rows`: what differs, the program, its longest text and its complaint, is all that they say.
 fn main(rt: HostRuntime) {
     let text = streams::answer::<SumsReply, _, MOST_LINE>(&mut rt.stdin());
     streams::send::<SumsReply, _, _, MOST_LINE>(

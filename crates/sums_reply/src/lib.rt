@@ -26,6 +26,7 @@ impl Program<MOST_LINE> for SumsReply {
 
     ghost room = { lit≤ tt };
 
+    // Two arrays, as C lends them to the call. Why not one function with that of `reply`: see there.
     fn show(n: usize, cells: &[u8]) -> Result<ArrayString<MOST_LINE>, Refusal> {
         let mut values = [0u8; MOST_CODE_PAIRS];
         let mut cares = [0u8; MOST_CODE_PAIRS];
