@@ -2,19 +2,10 @@
 ghost use Rattle.std.specs.Prelude.{◌≤◌, IfOk, length};
 ghost use Rattle.cube.specs.Calls.{widest};
 
-use arrayvec::ArrayVec;
 use cube::Refusal;
-use spelling::{MOST_CODE_PAIRS, MOST_CODES, MOST_CUBES};
+use spelling::{MOST_CODE_PAIRS, MOST_CUBES};
 use std::{fmt, io};
-
-// The cell that a character of a table stands for.
-fn cell_of(character: u8) -> u8 {
-    match character {
-        b'0' => 0,
-        b'1' => 1,
-        _ => 2,
-    }
-}
+use text::input::{Reader, Text};
 
 // A cube of this many digits.
 #[derive(Clone, Copy)]
@@ -75,17 +66,23 @@ fn report_plan(rt: &impl Print, width: usize, table: &[u8]) -> io::Result<()> {
     }
 }
 
-// What the calls answer for a table written as a run of 0, 1 and -. What is longer than the widest table is cut off; no example is.
-pub fn example(rt: &impl Print, name: &str, width: usize, text: &str) -> io::Result<()> {
-    println!(rt; "{name}")?;
-    let mut table = ArrayVec::<u8, MOST_CODES>::new();
-    for character in text.bytes() {
-        let _ = table.try_push(cell_of(character));
-    }
+// What the calls answer for a table.
+fn report_table(rt: &impl Print, width: usize, table: &[u8]) -> io::Result<()> {
     let mut places = [0u16; MOST_CUBES];
-    let primes = primes::primes(width, &table, &mut places);
+    let primes = primes::primes(width, table, &mut places);
     report(rt, "primes", width, primes, &places)?;
-    let essentials = essentials::essentials(width, &table, &mut places);
+    let essentials = essentials::essentials(width, table, &mut places);
     report(rt, "essentials", width, essentials, &places)?;
-    report_plan(rt, width, &table)
+    report_plan(rt, width, table)
+}
+
+// What the calls answer for the table of a text.
+pub fn example(rt: &impl Print, name: &str, text: &str) -> io::Result<()> {
+    println!(rt; "{name}")?;
+    let mut reader = Reader::new();
+    reader.feed(text.as_bytes());
+    match reader.text() {
+        Ok(Text { width, cells }) => report_table(rt, width, cells),
+        Err(refusal) => println!(rt; "  refused {}", refusal.number()),
+    }
 }
