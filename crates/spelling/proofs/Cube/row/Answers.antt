@@ -1,4 +1,4 @@
--- `spelling::row` meets its contract: six digits spell the same value, and the same care in its low bits. Assumes nothing.
+-- `spelling::Cube::row` meets its contract: six digits spell the same value, and the same care in its low bits. Assumes nothing.
 use mathlib.Core.Path.{◌≡◌, ap, ap₂, ◌∙◌, subst⁻¹}
 use Prim.Native.Nat.{ℕ, ◌^◌, ◌%◌, ◌<◌, ◌≤◌}
 use native.Mathlib.Nat.{lt_of_lt_of_le}
@@ -7,7 +7,7 @@ use Rattle.cube.specs.Words.{Row, care_of, row_of}
 use Rattle.cube.specs.Calls.{widest}
 use Rattle.cube.proofs.Calls.{codes_most, cubes_most}
 use Rattle.cube.proofs.Spelling.{care_lt, care_low, value_low}
-use Rattle.spelling.proofs.row.Goals as goal
+use Rattle.spelling.proofs.Cube.row.Goals as goal
 
 module _ (n q m : ℕ) (r : Row) (l : n ≤ widest) (r_is : r ≡ row_of widest q) (m_is : m ≡ 2 ^ n) where
   low_is : r.care % m ≡ care_of n q
@@ -17,10 +17,10 @@ module _ (n q m : ℕ) (r : Row) (l : n ≤ widest) (r_is : r ≡ row_of widest 
   low_fits = subst⁻¹ (λ (i : ℕ). i < 256) low_is (omega (arith, care_lt n q, codes_most n l))
 
 pub of_six-row-requires : goal.of_six-row-requires
-of_six-row-requires c = lt_of_lt_of_le c.requires.1 (cubes_most _ c.requires.0)
+of_six-row-requires c = lt_of_lt_of_le c.args.self.numbered (cubes_most _ c.args.self.narrow)
 
 pub returns : goal.returns
 returns c =
     ap₂ (λ (v w : ℕ). record { value = v; care = w })
-    (ap (λ (r : Row). r.value) c.of_six-row.ensures ∙ value_low c.args.n widest c.args.q c.requires.0 c.requires.1)
-    (low_is _ _ _ _ c.requires.0 c.of_six-row.ensures c.codes.ensures)
+    (ap (λ (r : Row). r.value) c.of_six-row.ensures ∙ value_low c.args.self.width widest c.args.self.number c.args.self.narrow c.args.self.numbered)
+    (low_is _ _ _ _ c.args.self.narrow c.of_six-row.ensures c.codes.ensures)
