@@ -2,7 +2,7 @@
 // them from here, the powers for bits, for cube digits and for the number of codes and cubes of a width.
 //
 //     spelling::spell(4, 53)      // digits 1 2 2 2: value 8, care 8
-#![tactic(auto, using(cube::proofs::Calls::refusals))]
+#![tactic(auto, using(cube::proofs::Calls::refusals, cube::proofs::Calls::cubes_most))]
 
 mod rows;
 
