@@ -18,7 +18,8 @@ ghost use Rattle.neighbours.specs.Steps.{found_below, inserted_at, FoundSoFar};
 use cube::Refusal;
 use tables::Table;
 
-// Puts q before place `at` of the first places, each of those behind it one place on, and returns how many there are then.
+// Puts q before place `at` of the first places, each of those behind it one place on, and returns how many there are then. The places are the caller's, as
+// C lends them, here and in `add_vicinity`, with the count beside them.
 fn insert_at(q: u16, at: usize, list: &mut [u16], count: usize) -> usize
     requires { (at ≤ count) × (count < length list.old) }
     ensures { Puts (inserted_at at q (take count list.old)) list.old 0 list.new result }

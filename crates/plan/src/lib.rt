@@ -20,7 +20,7 @@ use chart_arrays::ChartRow;
 use cube::Refusal;
 use incumbent::Cover;
 use matrix::{Matrix, columns, rows};
-use spelling::{MOST_CODE_PAIRS, MOST_CUBES};
+use spelling::{Cube, MOST_CODE_PAIRS, MOST_CUBES};
 use tables::Table;
 
 // What a row weighs, not counting its tested bits.
@@ -81,15 +81,16 @@ fn shortest(table: Table) -> CubeList
     CubeList { cubes, bits }
 }
 
-// Writes the values and the cares of some cubes, from the first place on.
+// Writes the values and the cares of some cubes, from the first place on. A place is an index: it is one in two arrays, as C lends them.
 #[tactic(auto, using(crate::proofs::Written::map_written))]
-fn write_rows(n: usize, cubes: &[u16], values: &mut [u8], cares: &mut [u8])
-    requires { Spellable n cubes.now values.old cares.old }
-    ensures values_are { values.new ≡ written 0 (map (value_of n) cubes.now) values.old }
-    ensures cares_are { cares.new ≡ written 0 (map (care_of n) cubes.now) cares.old }
+fn write_rows(width: usize, cubes: &[u16], values: &mut [u8], cares: &mut [u8])
+    requires { Spellable width cubes.now values.old cares.old }
+    ensures values_are { values.new ≡ written 0 (map (value_of width) cubes.now) values.old }
+    ensures cares_are { cares.new ≡ written 0 (map (care_of width) cubes.now) cares.old }
 {
     for (i, q) in cubes.iter().enumerate() {
-        let row = spelling::row(n, *q as usize);
+        let number = *q as usize;
+        let row = Cube { width, number }.row();
         values[i] = row.value;
         cares[i] = row.care;
     }

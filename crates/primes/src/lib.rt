@@ -16,7 +16,7 @@ ghost use Rattle.primes.specs.Steps.{kind, kind_of, Kinds, Joins, MarksBelow, is
 
 use cells::Split;
 use cube::Refusal;
-use spelling::MOST_CUBES;
+use spelling::{Cube, MOST_CUBES};
 use tables::Table;
 
 // What is noted of a cube: of two kinds of implicants the greater one tells whether one of them serves.
@@ -59,13 +59,14 @@ fn cube_kind(table: Table, kinds: &[Kind], q: usize) -> Kind
     requires lower { Kinds table.width table.cells.now kinds.now q }
     ensures { result ≡ kind_of table.entry.width table.entry.cells.now q }
 {
-    match cells::split_at_first(table.width, q) {
+    let width = table.width;
+    match cells::split_at_first(Cube { width, number: q }) {
         Split::Code(code) => code_kind(table.cells[code as usize]),
-        Split::Halves(low, high) => joined_kind(kinds[low], kinds[high]),
+        Split::Halves(low, high) => joined_kind(kinds[low.number], kinds[high.number]),
     }
 }
 
-// Notes the kinds of the cubes of a table.
+// Notes the kinds of the cubes of a table. A cube's kind is made from kinds noted before it, so each is written by its place.
 fn note_kinds(table: Table, kinds: &mut [Kind])
     requires { 3 ^ table.width ≤ length kinds.old }
     ensures { Kinds table.entry.width table.entry.cells.now kinds.new (3 ^ table.entry.width) }
@@ -75,35 +76,43 @@ fn note_kinds(table: Table, kinds: &mut [Kind])
     }
 }
 
-// Whether digit k of q is a literal that can be given up.
-fn expands(n: usize, kinds: &[Kind], q: usize, k: usize) -> bool
-    requires { (n ≤ widest) × (3 ^ n ≤ length kinds.now) × (q < 3 ^ n) × (k < n) }
-    ensures { result ≡ expands_by kinds.now q k }
-{
-    let d = spelling::digit(q, k);
-    if d == 2 {
-        return false;
+// The kinds of the cubes of `width` digits.
+#[derive(Clone, Copy)]
+struct CubeKinds<'a> {
+    width: usize,
+    kinds: &'a [Kind],
+    ghost narrow: { width ≤ widest },
+    ghost enough: { 3 ^ width ≤ length kinds.now },
+}
+
+impl CubeKinds<'_> {
+    // Whether digit k of a cube is a literal that can be given up.
+    fn expands(self, cube: Cube, k: usize) -> bool
+        requires { (cube.width ≡ self.width) × (k < self.width) }
+        ensures { result ≡ expands_by self.entry.kinds.now cube.number k }
+    {
+        spelling::digit(cube.number, k) != 2
+            && self.kinds[cube.with_digit(k, 2).number] != Kind::NoImplicant
     }
-    let wider = q + (2 - d) * spelling::cubes(k);
-    kinds[wider] != Kind::NoImplicant
-}
 
-// Whether q is an implicant that serves and of which no literal can be given up.
-#[tactic(auto, unfolding(crate::specs::Steps::serving_prime_by))]
-fn is_serving_prime(n: usize, kinds: &[Kind], q: usize) -> bool
-    requires { (n ≤ widest) × (3 ^ n ≤ length kinds.now) × (q < 3 ^ n) }
-    ensures { result ≡ serving_prime_by n kinds.now q }
-{
-    kinds[q] == Kind::Serving && !(0..n).any(|k| expands(n, kinds, q, k))
-}
+    // Whether a cube is an implicant that serves and of which no literal can be given up.
+    #[tactic(auto, unfolding(crate::specs::Steps::serving_prime_by))]
+    fn is_serving_prime(self, cube: Cube) -> bool
+        requires { cube.width ≡ self.width }
+        ensures { result ≡ serving_prime_by self.entry.width self.entry.kinds.now cube.number }
+    {
+        self.kinds[cube.number] == Kind::Serving && !(0..self.width).any(|k| self.expands(cube, k))
+    }
 
-// Marks the primes that serve by the kinds of the cubes.
-fn mark_maximal(n: usize, kinds: &[Kind], marks: &mut [bool])
-    requires { (n ≤ widest) × (3 ^ n ≤ length kinds.now) × (3 ^ n ≤ length marks.old) }
-    ensures { MarksBelow (3 ^ n) (serving_prime_by n kinds.now) marks.old marks.new }
-{
-    for q in 0..spelling::cubes(n) {
-        marks[q] = is_serving_prime(n, kinds, q);
+    // Marks the primes that serve.
+    fn mark_maximal(self, marks: &mut [bool])
+        requires { 3 ^ self.width ≤ length marks.old }
+        ensures { MarksBelow (3 ^ self.entry.width) (serving_prime_by self.entry.width self.entry.kinds.now) marks.old marks.new }
+    {
+        let width = self.width;
+        for (q, mark) in marks[..spelling::cubes(width)].iter_mut().enumerate() {
+            *mark = self.is_serving_prime(Cube { width, number: q });
+        }
     }
 }
 
@@ -115,10 +124,14 @@ pub fn mark_serving_primes(table: Table, marks: &mut [bool])
 {
     let mut kinds = [Kind::NoImplicant; MOST_CUBES];
     note_kinds(table, &mut kinds);
-    mark_maximal(table.width, &kinds, marks);
+    let kinds = CubeKinds {
+        width: table.width,
+        kinds: &kinds,
+    };
+    kinds.mark_maximal(marks);
 }
 
-// Lists the marked numbers, ascending, and returns how many there are.
+// Lists the marked numbers, ascending, and returns how many there are. They are counted beside the places, which are the caller's, as C lends them.
 fn list_all_marked(marks: &[bool], out: &mut [u16]) -> usize
     requires { (length marks.now ≤ 3 ^ widest) × (length marks.now ≤ length out.old) }
     ensures { Puts (those (length marks.now) (is_marked marks.now)) out.old 0 out.new result }

@@ -42,7 +42,8 @@ impl<'a> Table<'a> {
         Ok(Table { width: n, cells })
     }
 
-    // The same for a call that lists cubes of the table into so many lent places: refused, last, for fewer than 3^n places.
+    // The same for a call that lists cubes of the table into so many lent places: refused, last, for fewer than 3^n places. Each such call is this, `?` and its
+    // list, and not one function: that would take the list as a closure, with what it promises, and a call of it would be as long.
     pub fn with_places(n: usize, cells: &'a [u8], places: usize) -> Result<Table<'a>, Refusal>
         ensures refusal { refusal_of result ≡ primes_refuses n cells.now places }
         ensures table { IfOk result (λ t. (t.width ≡ n) × (t.cells.now ≡ cells.now)) }

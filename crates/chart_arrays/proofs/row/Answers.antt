@@ -5,5 +5,5 @@ use Rattle.chart_arrays.proofs.row.Goals as goal
 
 pub returns : goal.returns
 returns c =
-    ap₂ (λ x y. record { cube = c.args.q; word = x; literals = y }) c.cube_columns-word.ensures
+    ap₂ (λ x y. record { cube = c.args.q; word = x; literals = y }) c.cube_columns.ensures
     (literals c.args.table.width c.args.q _ c.requires (ap (λ r. r.care) c.row-care.ensures))

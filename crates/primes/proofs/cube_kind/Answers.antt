@@ -7,6 +7,7 @@ use lib.Dec.{eqb}
 use lib.ListN.{get_or}
 use Rattle.cube.specs.Words.{codes_of, implicant, serves}
 use Rattle.cube.proofs.Codes.{implicant_one, implicant_two, serves_one, serves_two}
+use Rattle.spelling.specs.declared.Cube.{Cube}
 use Rattle.cells.specs.Steps.{Splits}
 use Rattle.cells.specs.declared.Split.TheVariants.{Halves}
 use Rattle.primes.specs.Steps.{kind, kind_of, Kinds, Joins}
@@ -18,9 +19,11 @@ module _ (n : ℕ) (t : List ℕ) (q : ℕ) (r : Kind) where
   of_code : (c : ℕ) → codes_of n q ≡ c ∷ [] → r ≡ kind (not (eqb (get_or t c 0) 0)) (eqb (get_or t c 0) 1) → r ≡ kind_of n t q
   of_code c e h = h ∙ sym (ap₂ kind (implicant_one n t q c e) (serves_one n t q c e))
 
-  of_halves : (kinds : List Kind) → Kinds n t kinds q → (a b : ℕ) → Splits n q (Halves a b) → Joins (get_or kinds a NoImplicant) (get_or kinds b NoImplicant) r
-      → r ≡ kind_of n t q
-  of_halves kinds k a b s h =
+  of_halves : (kinds : List Kind) → Kinds n t kinds q → (low high : Cube) → Splits n q (Halves low high)
+      → Joins (get_or kinds low.number NoImplicant) (get_or kinds high.number NoImplicant) r → r ≡ kind_of n t q
+  of_halves kinds k low high s h =
+      let a : ℕ = low.number in
+      let b : ℕ = high.number in
       h (implicant n t a) (serves n t a) (implicant n t b) (serves n t b) (k a s.0.lower) (k b s.1.lower)
       ∙ sym (ap₂ kind (implicant_two n t q a b s.2) (serves_two n t q a b s.2))
 

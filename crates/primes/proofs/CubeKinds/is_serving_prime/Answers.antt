@@ -1,4 +1,4 @@
--- `primes::is_serving_prime` meets its contract: each literal is tried. Assumes nothing.
+-- `primes::CubeKinds::is_serving_prime` meets its contract: each literal is tried. Assumes nothing.
 use mathlib.Core.Path.{◌≡◌, refl, sym, ap, ap₂, ◌∙◌}
 use mathlib.Core.Bool.{Bool, ◌||◌}
 use Prim.Native.Nat.{ℕ, zero, suc, ◌+◌}
@@ -10,7 +10,7 @@ use Rattle.std.proofs.lemmas.Iterator.Search.{any_from_yields_List}
 use Rattle.numbers.specs.Below.{some}
 use Rattle.numbers.proofs.Below.{some_front}
 use Rattle.primes.specs.Steps.{expands_by, serving_prime_by}
-use Rattle.primes.proofs.is_serving_prime.Goals as goal
+use Rattle.primes.proofs.CubeKinds.is_serving_prime.Goals as goal
 
 -- one of m numbers from i on passes
 any_in_range : (f g : ℕ → Bool) (i m : ℕ) → ((k : ℕ) → f (i + k) ≡ g k) → list_any f (range_with_len i m) ≡ some m g
@@ -22,8 +22,8 @@ any_in_range f g i (suc m) e =
 pub returns-then-eq : goal.returns-then-eq
 unfolding serving_prime_by
 returns-then-eq c =
-    let f : ℕ → Bool = expands_by c.args.kinds.now c.args.q in
+    let f : ℕ → Bool = expands_by c.args.self.kinds.now c.args.cube.number in
     let tried =
-    any_from_yields_List f _ _ c.any.result c.any.ensures.ran (YieldsList-from_range 0 c.args.n c.args.n refl (omega arith)) (λ x b q k. search (rules, tests))
-    ∙ any_in_range f f 0 c.args.n (λ k. ap f (omega arith)) in
+    any_from_yields_List f _ _ c.any.result c.any.ensures.ran (YieldsList-from_range 0 c.args.self.width c.args.self.width refl (omega arith)) (λ x b q k. search (rules, tests))
+    ∙ any_in_range f f 0 c.args.self.width (λ k. ap f (omega arith)) in
     grind (arith, tried)
