@@ -52,10 +52,6 @@ module _ (words weights : List ℕ) (live : RowSet) (u : ColumnSet) (e : Exchang
       new = λ m k. ⊎_elim (λ x. inr (subst (Taken found) (sym (eqb-true m i x)) (j, turn.here, image, h))) (p.new m) (either_of (eqb m i) (member more m) (sym (f m) ∙ k));
     }
 
-    -- it is another
-    pub passed_other : Passed found more (passed (ys ++ i ∷ []))
-    passed_other = record { images = images_more; kept = p.kept; new = p.new }
-
   -- ---- all live rows
 
   module _ (into : (c : ℕ) → In u c → In u (partner e c)) {found more : RowSet} {n : ℕ} (all : (i : ℕ) → i < row_count words → Member live i → i < n) (p : Passed found more n) where
