@@ -31,7 +31,7 @@ pub struct ChartRow {
 fn is_column(cell: u8, code: usize, row: Row) -> bool
     ensures { result ≡ (cell == 1 && row_matches row code) }
 {
-    cell == 1 && code & row.care as usize == row.value as usize
+    cell == 1 && code & usize::from(row.care) == usize::from(row.value)
 }
 
 // The wanted codes that a row matches.
@@ -70,7 +70,7 @@ fn row(table: Table, q: u16) -> ChartRow
     ensures { result ≡ chart_row table.entry.width table.entry.cells.now q }
 {
     let width = table.width;
-    let number = q as usize;
+    let number = usize::from(q);
     let care = Cube { width, number }.row().care;
     ChartRow {
         cube: q,

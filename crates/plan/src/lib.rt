@@ -89,7 +89,7 @@ fn write_rows(width: usize, cubes: &[u16], values: &mut [u8], cares: &mut [u8])
     ensures cares_are { cares.new ≡ written 0 (map (care_of width) cubes.now) cares.old }
 {
     for (i, q) in cubes.iter().enumerate() {
-        let number = *q as usize;
+        let number = usize::from(*q);
         let row = Cube { width, number }.row();
         values[i] = row.value;
         cares[i] = row.care;
@@ -115,7 +115,8 @@ pub fn accept<'a>(
     Ok(accepted)
 }
 
-// Writes a shortest list for a table into the first places of both arrays, ascending by cube number, and answers its totals.
+// Writes a shortest list for a table into the first places of both arrays, ascending by cube number, and answers its totals. A list is lent as two arrays
+// here and by the other calls that write one, as C has it.
 pub fn plan(n: usize, table: &[u8], values: &mut [u8], cares: &mut [u8]) -> Result<Totals, Refusal>
     ensures { Plans n table.now values.old cares.old values.new cares.new result }
 {

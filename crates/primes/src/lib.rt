@@ -61,7 +61,7 @@ fn cube_kind(table: Table, kinds: &[Kind], q: usize) -> Kind
 {
     let width = table.width;
     match cells::split_at_first(Cube { width, number: q }) {
-        Split::Code(code) => code_kind(table.cells[code as usize]),
+        Split::Code(code) => code_kind(table.cells[usize::from(code)]),
         Split::Halves(low, high) => joined_kind(kinds[low.number], kinds[high.number]),
     }
 }

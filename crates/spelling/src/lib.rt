@@ -57,7 +57,7 @@ pub fn cubes(n: usize) -> usize
     POWERS_OF_THREE[n]
 }
 
-// Digit k of a cube, counted from the last.
+// Digit k of a cube, counted from the last: 0, 1, or 2 where it is untested. It is a number, since numbers of cubes are computed with it.
 pub fn digit(q: usize, k: usize) -> usize
     requires { k ≤ widest }
     ensures { result ≡ digitAt k q }
@@ -107,7 +107,7 @@ impl Cube {
         let row = rows::of_six(self.number);
         Row {
             value: row.value,
-            care: (row.care as usize % codes(self.width)) as u8,
+            care: (usize::from(row.care) % codes(self.width)) as u8,
         }
     }
 }

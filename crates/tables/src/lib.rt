@@ -10,7 +10,8 @@ ghost use Rattle.tables.specs.Listing.{primes_refuses};
 
 use cube::Refusal;
 
-// A table of `width` variables: a cell for each code.
+// A table of `width` variables: a cell for each code, 1 where it is wanted, 0 where it is barred, 2 where it is free. Cells are bytes and no enum: C lends
+// bytes, and whole tables are handed on as slices of them.
 #[derive(Clone, Copy)]
 pub struct Table<'a> {
     pub width: usize,
@@ -56,7 +57,8 @@ impl<'a> Table<'a> {
         Ok(table)
     }
 
-    // The number of its cubes.
+    // The number of its cubes. That lent places suffice for them is asked by each function that lists cubes: a type of a table and places would hold what is
+    // lent to be changed, and every contract would tell of the places through it.
     pub fn cubes(self) -> usize
         ensures { result ≡ 3 ^ self.entry.width }
     {
