@@ -44,8 +44,7 @@ pub fn gather(n: usize, rows: Rows<'_>) -> Result<columns::Set, Refusal>
     ensures { Gathers n (rows_of rows.entry.values.now rows.entry.cares.now) result }
 {
     let mut matched = columns::NONE;
-    for (&value, &care) in rows.values.iter().zip(rows.cares) {
-        let row = Row { value, care };
+    for row in rows {
         if !lists::is_formed(n, row) {
             return Err(Refusal::UnformedRow);
         }
