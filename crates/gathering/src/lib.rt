@@ -16,6 +16,7 @@ use matrix::columns;
 use matrix::words::Word;
 
 // The codes so far and, if a bit is not tested, each of them raised by the weight of that bit.
+#[tactic(auto, using(crate::proofs::RowCodes::weight_most))]
 fn with_bit(care: u8, bit: usize, matched: columns::Set) -> columns::Set
     requires { bit < widest }
     ensures { (c : ℕ) → has result c ≡ (has matched c || (not (has_bit care bit) && has_raised matched (2 ^ bit) c)) }
