@@ -8,10 +8,11 @@ use native.Mathlib.Nat.{div-eq_of_lt, add-div_right, add-mod_right, mod-eq_of_lt
 use native.Mathlib.Omega.{arith}
 use native.Mathlib.Decide.{ℕ_discrete, dec_lt}
 use lib.Dec.{T, eqb, ltb, leb, eqb→eq, lt→ltb, leb→le, le→leb}
-use lib.Pow.{pow_pos, split, shr-shr, mod-pow-add, field, mod-mod-pow}
+use lib.Pow.{pow_pos, pow-lt, split, shr-shr, mod-pow-add, field, mod-mod-pow}
 use lib.Bits.{bit_and, and_mod, and_le_r}
 use borrow.Author.Tests.{eq-eqb, ne_eqb}
 use Rattle.cube.specs.Words.{row_matches}
+use Rattle.cube.specs.Calls.{widest}
 use Rattle.matrix.specs.Sets.{column_limit, has_bit, ColumnSet, has, has_raised}
 use Rattle.numbers.proofs.Bools.{and_l, and_r, and_i, or_e, or_l, or_r, same, is_false, eqb_of}
 use Rattle.cube.proofs.Rows.{Formed}
@@ -22,6 +23,10 @@ use Rattle.gathering.specs.Gathered.{HoldsExactly}
 raised_below : (x w k : ℕ) → bit_and (x + 2 ^ k) w % 2 ^ k ≡ bit_and x w % 2 ^ k
 raised_below x w k =
     and_mod (x + 2 ^ k) w k ∙ ap (λ (y : ℕ). bit_and y (w % 2 ^ k)) (add-mod_right x (2 ^ k)) ∙ sym (and_mod x w k)
+
+-- the weight of a bit is one of the places of a word
+pub weight_most : (k : ℕ) → k < widest → 2 ^ k < 64
+weight_most k l = pow-lt l
 
 -- what is 0 above bit n is below 2^n
 below_pow : (x n : ℕ) → x / 2 ^ n ≡ 0 → x < 2 ^ n

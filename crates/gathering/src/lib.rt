@@ -16,6 +16,7 @@ use matrix::columns;
 use matrix::words::Word;
 
 // The codes so far and, if a bit is not tested, each of them raised by the weight of that bit.
+#[tactic(auto, using(crate::proofs::RowCodes::weight_most))]
 fn with_bit(care: u8, bit: usize, matched: columns::Set) -> columns::Set
     requires { bit < widest }
     ensures { (c : ℕ) → has result c ≡ (has matched c || (not (has_bit care bit) && has_raised matched (2 ^ bit) c)) }
@@ -44,8 +45,7 @@ pub fn gather(n: usize, rows: Rows<'_>) -> Result<columns::Set, Refusal>
     ensures { Gathers n (rows_of rows.entry.values.now rows.entry.cares.now) result }
 {
     let mut matched = columns::NONE;
-    for (&value, &care) in rows.values.iter().zip(rows.cares) {
-        let row = Row { value, care };
+    for row in rows {
         if !lists::is_formed(n, row) {
             return Err(Refusal::UnformedRow);
         }

@@ -48,6 +48,7 @@ fn put_file(n: usize, rows: Rows<'_>, out: &mut [u8])
 }
 
 // Writes the list file of a list into the first bytes of a buffer. Answers its length, or why it refuses.
+#[tactic(auto, using(cube::proofs::Calls::refusals, cube::proofs::Calls::listed_refused, cube::proofs::Lists::rows_length))]
 pub fn write(n: usize, values: &[u8], cares: &[u8], out: &mut [u8]) -> Result<usize, Refusal>
     ensures { Writes one_byte_count n values.now cares.now out.old out.new result }
 {

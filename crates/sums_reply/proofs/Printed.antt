@@ -18,7 +18,7 @@ use Rattle.keep_out.specs.KeepOut.{MayKeepOut, PlansKeepOut}
 use Rattle.keep_out.specs.Theorems.{exchanged, HeldKeepOut}
 use Rattle.keep_out.proofs.Exchanging.{exchange}
 use Rattle.keep_out.proofs.Theorems.{plans_exchanged, arrays_keep_out}
-use Rattle.text.specs.Steps.{most_variables, ShowsTable}
+use Rattle.text.specs.Steps.{ShowsTable}
 use Rattle.product.specs.Product.{excluding_line}
 use Rattle.product.specs.Steps.{most_line}
 use Rattle.product.proofs.Lengths.{line_fits}
@@ -38,9 +38,6 @@ module _ (n : ℕ) (t values cares values' cares' : List ℕ) (v : 2 ^ (widest -
     table_width : n ≤ widest
     table_width =
         (accepted n t (sym refusal_is ∙ not_refused n (exchanged t) values cares values' cares' totals ((plans_exchanged n t values cares values' cares' (Ok totals)).0 p))).to
-
-    pub line_width : n ≤ most_variables
-    line_width = omega (arith, table_width)
 
     pub line_room : length (excluding_line n list) ≤ most_line
     line_room = line_fits n list table_width (omega (arith, keeps.held.row_count, keeps.held.few, code_pairs_most n table_width))

@@ -62,8 +62,8 @@ appends = record {
 }
 
 -- what the library writes for a number of 64 bits
-pub is-decimal : (x : ℕ) → x < 2 ^ 64 → decimal x ≡ in_decimal x
-is-decimal x l = sym (decimal_from_appends decimal_by appends (suc x) x l (simp add-one at (length-decimal-le_succ x l))) ∙ by_any (suc x) x x (omega arith) (omega arith)
+pub is_decimal : (x : ℕ) → x < 2 ^ 64 → decimal x ≡ in_decimal x
+is_decimal x l = sym (decimal_from_appends decimal_by appends (suc x) x l (simp add-one at (length-decimal-le_succ x l))) ∙ by_any (suc x) x x (omega arith) (omega arith)
 
 pub decimals : (x : ℕ) → Decimal x
 decimals x = record { low = decimal_low x; high = decimal_high x }

@@ -6,9 +6,10 @@ use mathlib.Core.Bool.{Bool, true, false, cond, not}
 use mathlib.Core.List.{List, [], ◌∷◌, ◌++◌}
 use Prim.Native.Nat.{ℕ, ◌^◌, ◌<◌, ◌≤◌}
 use native.Mathlib.Omega.{arith}
-use lib.ListN.{length}
+use lib.ListN.{length, length-append}
 use lib.Seq.{length-take-le, take_all}
 use borrow.Author.Tests.{ne_eqb}
+use Rattle.std.proofs.lemmas.List.{take-append-le}
 use Rattle.cube.specs.Words.{Cover}
 use Rattle.cube.specs.Calls.{widest, bad_width, bad_length, bad_cell, Condition, when, first_of, table_conditions, Answer, refuses, gives}
 use Rattle.numbers.proofs.Bools.{lt_or_le}
@@ -30,6 +31,14 @@ long_refused n t rest l = go (bad_width n) refl
     go : (b : Bool) → bad_width n ≡ b → cond b 1 (first_of (when (bad_length n t) 2 ∷ when (bad_cell t) 3 ∷ rest)) ≡ cond b 1 2
     go true e = refl
     go false e = by_length e
+
+-- one cell more is kept where fewer are kept than may be, and else none is
+module _ (cells : List ℕ) (x : ℕ) where
+  pub one_kept : length cells < most_cells → cells ++ x ∷ [] ≡ keep (cells ++ x ∷ [])
+  one_kept l = sym (take_all most_cells (cells ++ x ∷ []) (omega (arith, length-append cells (x ∷ []))))
+
+  pub none_kept : length cells ≡ most_cells → cells ≡ keep (cells ++ x ∷ [])
+  none_kept e = sym (take-append-le most_cells cells (x ∷ []) (omega arith) ∙ take_all most_cells cells (omega arith))
 
 -- a call whose further conditions are the rest refuses the cells that are kept exactly as it refuses the whole run; where the table is not refused,
 -- they are the whole run

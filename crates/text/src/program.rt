@@ -49,6 +49,7 @@ pub fn reply<P: Program<N>, const N: usize>(reader: &Reader) -> ArrayString<N>
 }
 
 // What is printed for a whole input.
+#[tactic(auto, using(crate::proofs::Replies::input_said))]
 pub fn whole<P: Program<N>, const N: usize>(input: &[u8]) -> ArrayString<N>
     ensures { ProgramOutput P.shown P.May input.now result.bytes }
 {

@@ -1,7 +1,7 @@
 -- `sums_reply::SumsReply::show` meets its contract: the answer of the keep-out call is shown. Assumes nothing.
 use Rattle.std.proofs.Common.{lit<, lit≤}
 use Rattle.std.proofs.lemmas.Result.{err_from_is_err_and}
-use Rattle.sums_reply.proofs.Printed.{line_width, line_room, shows_line, refuses_keep_out}
+use Rattle.sums_reply.proofs.Printed.{line_room, shows_line, refuses_keep_out}
 use Rattle.sums_reply.proofs.SumsReplyProgramMOST_LINE.show.Goals as goal
 
 pub returns-in_err-totals-clause-refusal : goal.returns-in_err-totals-clause-refusal
@@ -10,13 +10,7 @@ returns-in_err-totals-clause-refusal c =
     rw (e.1, e.2) (refuses_keep_out c.args.n c.args.cells.now _ _ _ _ (lit≤ tt) (lit≤ tt) _ c.in_err-totals.ensures)
 
 pub line-requires : goal.line-requires
-line-requires c = (
-  lit< tt,
-  (
-    line_width c.args.n c.args.cells.now _ _ _ _ (lit≤ tt) (lit≤ tt) _ c.in_ok-totals.ensures,
-    line_room c.args.n c.args.cells.now _ _ _ _ (lit≤ tt) (lit≤ tt) _ c.in_ok-totals.ensures,
-  ),
-)
+line-requires c = (lit< tt, line_room c.args.n c.args.cells.now _ _ _ _ (lit≤ tt) (lit≤ tt) _ c.in_ok-totals.ensures)
 
 pub returns-clause-text : goal.returns-clause-text
 returns-clause-text c = shows_line c.args.n c.args.cells.now _ _ _ _ (lit≤ tt) (lit≤ tt) _ c.in_ok-totals.ensures c.line.ensures
