@@ -57,7 +57,7 @@ fn sole_columns(words: &[columns::Set]) -> columns::Set
     seen.once - seen.twice
 }
 
-// Marks the words that have one of the columns. A mark is an index: of what is written through a `zip` of marks and words nothing is known behind the loop.
+// Marks the words that have one of the columns. They are indexed: behind a `zip` of marks and words nothing is known of what was written.
 fn mark_holders(words: &[columns::Set], sole: columns::Set, marks: &mut [bool])
     requires { length words.now ≤ length marks.old }
     ensures { HolderMarks words.now sole marks.new (length words.now) }
