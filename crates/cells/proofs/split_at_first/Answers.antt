@@ -20,7 +20,7 @@ one_code n q v f d = (
   codes_one n q f ∙ ap (λ (i : ℕ). i ∷ []) (sym d),
 )
 
-module _ (n q k : ℕ) (l : q < 3 ^ n) (f : FirstUntested n q (Some k)) where
+module _ (n q k : ℕ) (f : FirstUntested n q (Some k)) where
   -- the untested digit is worth twice its weight
   twice : digit k q * 3 ^ k ≡ 2 * 3 ^ k
   twice = ap (λ (i : ℕ). i * 3 ^ k) f.1
@@ -28,10 +28,10 @@ module _ (n q k : ℕ) (l : q < 3 ^ n) (f : FirstUntested n q (Some k)) where
   positive : 0 < 3 ^ k
   positive = one-le-pow k 3 (lit< tt)
 
-  half : (d : ℕ) → d < 2 → (p : Cube) → p.width ≡ n → p.number ≡ put_digit k d q → put_digit k d q < q → Half n q p
+  half : (d : ℕ) → d < 2 → (p : Cube) → p.width ≡ n → p.number ≡ put_digit k d q → p.number < q → Half n q p
   half d m p w e lt = record {
     width = w;
-    lower = omega arith;
+    lower = lt;
     fewer = rw e (omega (arith, untested_falls n k d q f.0 m f.1, literals_le n q, literals_le n (put_digit k d q)));
   }
 
@@ -40,8 +40,8 @@ module _ (n q k : ℕ) (l : q < 3 ^ n) (f : FirstUntested n q (Some k)) where
   two_halves low high v w d e =
       let low_is : low.number ≡ put_digit k 0 q = omega (arith, put_weight k 0 q) in
       let high_is : high.number ≡ put_digit k 1 q = omega (arith, put_weight k 1 q) in (
-        half 0 (lit< tt) low v low_is (omega (arith, put_weight k 0 q, twice, positive)),
-        half 1 (lit< tt) high w high_is (omega (arith, put_weight k 1 q, twice, positive)),
+        half 0 (lit< tt) low v low_is (omega (arith, twice, positive)),
+        half 1 (lit< tt) high w high_is (omega (arith, twice, positive)),
         rw (low_is, high_is) (codes_split n k q f.0 f.1 f.2),
       )
 
@@ -49,4 +49,7 @@ pub returns-in-None : goal.returns-in-None
 returns-in-None c = one_code _ _ _ c.in-None.ensures (ap (λ (r : Row). r.value) c.row.ensures)
 
 pub returns-in-Some : goal.returns-in-Some
-returns-in-Some c = two_halves _ _ _ c.args.cube.numbered c.in-Some.ensures _ _ c.with_digit.ensures.width c.with_digit-in-Some.ensures.width c.with_digit.ensures.number c.with_digit-in-Some.ensures.number
+returns-in-Some c =
+    let low = c.with_digit.ensures in
+    let high = c.with_digit-in-Some.ensures in
+    two_halves _ _ _ c.in-Some.ensures _ _ low.width high.width low.number high.number

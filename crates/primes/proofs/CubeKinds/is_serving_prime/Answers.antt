@@ -22,8 +22,9 @@ any_in_range f g i (suc m) e =
 pub returns-then-eq : goal.returns-then-eq
 unfolding serving_prime_by
 returns-then-eq c =
+    let n = c.args.self.width in
     let f : ℕ → Bool = expands_by c.args.self.kinds.now c.args.cube.number in
     let tried =
-    any_from_yields_List f _ _ c.any.result c.any.ensures.ran (YieldsList-from_range 0 c.args.self.width c.args.self.width refl (omega arith)) (λ x b q k. search (rules, tests))
-    ∙ any_in_range f f 0 c.args.self.width (λ k. ap f (omega arith)) in
+    any_from_yields_List f _ _ c.any.result c.any.ensures.ran (YieldsList-from_range 0 n n refl (omega arith)) (λ x b q k. search (rules, tests))
+    ∙ any_in_range f f 0 n (λ k. ap f (omega arith)) in
     grind (arith, tried)
