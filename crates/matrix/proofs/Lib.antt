@@ -1,4 +1,4 @@
--- The laws of words, of sets of columns and of sets of rows.
+-- The laws of words, of sets of columns and of sets of rows, and of an array that a closure makes.
 pub mod Bits
 pub mod Sets
 pub mod Made

@@ -59,7 +59,7 @@ abbrev pub lacking : Bool → Bool → Bool
 lacking x y = x && not y
 
 module _ (op : Bool → Bool → Bool) (a b : List ℕ) where
-  -- w is the word k of both sets joined
+  -- both sets are whole, and w is the word k of both joined
   abbrev pub Joins : ℕ → ℕ → Type 0
   Joins k w = (length a ≡ row_words) × (length b ≡ row_words) × ((x : ℕ) → has_bit w x ≡ op (has_bit (get_or a k 0) x) (has_bit (get_or b k 0) x))
 
