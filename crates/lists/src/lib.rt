@@ -1,4 +1,4 @@
-// A list of rows in two arrays: what it is refused for.
+// A list of rows in two arrays: what it is refused for, and a walk over its rows.
 //
 //     Rows::formed(4, &[8], &[8])     // Ok: value 8 and care 8 are a formed row
 //     Rows::formed(4, &[8], &[7])     // Err(Refusal::UnformedRow): value 8 has a one outside care 7
@@ -50,6 +50,7 @@ impl Iterator for Each<'_> {
 
     ghost remaining = { item_count rows_left };
 
+    #[inline]
     #[tactic(auto, using(crate::proofs::Walks::no_care), unfolding(cube::specs::Words::rows_of))]
     fn next(&mut self) -> Option<Row> {
         let value = *self.values.next()?;
@@ -65,6 +66,7 @@ impl<'a> IntoIterator for Rows<'a> {
 
     ghost into_iter_gives = { λ rows each. rows_left each ≡ rows_of rows.values.now rows.cares.now };
 
+    #[inline]
     fn into_iter(self) -> Each<'a> {
         Each {
             values: self.values.iter(),
