@@ -6,7 +6,7 @@ use Prim.Native.Nat.{ℕ, ◌<◌, ◌≤◌}
 use native.Mathlib.Omega.{arith}
 use lib.Dec.{eqb, ltb}
 use borrow.Author.Tests.{lt-ltb, le-ltb, eq-eqb, ne_eqb}
-use Rattle.numbers.proofs.Bools.{lt_or_le}
+use Rattle.std.proofs.lemmas.Bool.{cases_lt}
 use Rattle.cube.specs.Minimum.{NoBetter}
 use Rattle.plan.specs.declared.Totals.{Totals}
 use Rattle.better.specs.Better.{is_better}
@@ -36,20 +36,20 @@ module _ (a b : Totals) where
   pub not_better : is_better a b ≡ false → NoBetter a.rows a.bits b.rows b.bits
   not_better e =
       ⊎_elim (λ l. absurd (true≢false (sym (fewer_rows l) ∙ e)))
-      (λ l. ⊎_elim inl (λ m. inr (let same : b.rows ≡ a.rows = omega arith in (same, by_bits (sym same)))) (lt_or_le b.rows a.rows))
-      (lt_or_le a.rows b.rows)
+      (λ l. ⊎_elim inl (λ m. inr (let same : b.rows ≡ a.rows = omega arith in (same, by_bits (sym same)))) (cases_lt b.rows a.rows))
+      (cases_lt a.rows b.rows)
     where
       by_bits : a.rows ≡ b.rows → b.bits ≤ a.bits
-      by_bits r = ⊎_elim (λ l. absurd (true≢false (sym (fewer_bits r l) ∙ e))) (λ l. l) (lt_or_le a.bits b.bits)
+      by_bits r = ⊎_elim (λ l. absurd (true≢false (sym (fewer_bits r l) ∙ e))) (λ l. l) (cases_lt a.bits b.bits)
 
   pub is_better_lem : is_better a b ≡ true → Worse b.rows b.bits a.rows a.bits
   is_better_lem e =
       ⊎_elim inl
-      (λ l. ⊎_elim (λ m. absurd (true≢false (sym e ∙ more_rows m))) (λ m. inr (let same : a.rows ≡ b.rows = omega arith in (same, by_bits same))) (lt_or_le b.rows a.rows))
-      (lt_or_le a.rows b.rows)
+      (λ l. ⊎_elim (λ m. absurd (true≢false (sym e ∙ more_rows m))) (λ m. inr (let same : a.rows ≡ b.rows = omega arith in (same, by_bits same))) (cases_lt b.rows a.rows))
+      (cases_lt a.rows b.rows)
     where
       by_bits : a.rows ≡ b.rows → a.bits < b.bits
-      by_bits r = ⊎_elim (λ l. l) (λ l. absurd (true≢false (sym e ∙ no_fewer_bits r l))) (lt_or_le a.bits b.bits)
+      by_bits r = ⊎_elim (λ l. l) (λ l. absurd (true≢false (sym e ∙ no_fewer_bits r l))) (cases_lt a.bits b.bits)
 
 -- ---- one after the other
 

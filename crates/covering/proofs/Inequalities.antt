@@ -12,12 +12,13 @@ use native.Mathlib.Decide.{ℕ_discrete}
 use native.Mathlib.Omega.{arith}
 use lib.Dec.{eqb}
 use borrow.Author.Tests.{eq-eqb, eqb-true, ne_eqb}
+use Rattle.std.proofs.lemmas.Bool.{or_left, or_right}
 use Rattle.numbers.specs.Below.{those, among}
 use Rattle.covering.specs.Sum.{if_set, sum}
 use Rattle.covering.specs.Weighted.{Within, Hits, Covers, weight, AtLeast, total}
 use Rattle.covering.specs.Search.{only}
 use Rattle.covering.specs.Inequalities.{Has, NoRow, OnlyRow, Rival, Valid, Needs, AtLeastWith, excess}
-use Rattle.numbers.proofs.Flags.{clash, either_of, left_of, right_of}
+use Rattle.numbers.proofs.Flags.{clash, either_of}
 use Rattle.covering.proofs.Sums.{sum_mono, sum-add, sum_skip, if_set_true, if_set_false, if_set_le}
 use Rattle.covering.proofs.Bounds.{within_mono, weight_le, weight-add, weight_times, hitter}
 use Rattle.covering.proofs.Sets.{rows_within, rows_hit, rows_weight}
@@ -44,7 +45,7 @@ all_among : (L : List ℕ) → Within (λ i. among i L ≡ true) L
 unfolding among
 all_among [] = tt
 all_among (x ∷ L) =
-    (left_of (eqb x x) (among x L) refl (eq-eqb x x refl), within_mono (λ i e. right_of (eqb i x) (among i L) refl e) L (all_among L))
+    (or_left _ _ (eq-eqb x x refl), within_mono (λ i e. or_right (eqb i x) _ e) L (all_among L))
 
 among-within : (A : ℕ → Type 0) (L : List ℕ) (i : ℕ) → Within A L → among i L ≡ true → A i
 unfolding among

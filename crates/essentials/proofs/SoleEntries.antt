@@ -11,10 +11,11 @@ use lib.Dec.{T, eqb, leb, ltb, eqb→eq, ltb→lt, lt→ltb}
 use lib.ListN.{length, get_or, set}
 use lib.Seq.{get_or-set_same, get_or-set_other}
 use borrow.Author.Tests.{le-leb, eq-eqb, ne_eqb}
+use Rattle.std.specs.Bool.{passes}
 use Rattle.numbers.specs.Below.{flag, tabulate}
 use Rattle.cube.specs.Words.{on_set, cube_matches, prime, essential, primes_of, column}
 use Rattle.cube.specs.McCluskey as mccluskey
-use Rattle.numbers.proofs.Bools.{and_l, and_r, and_i, is_true, is_false, holds}
+use Rattle.numbers.proofs.Bools.{and_l, and_r, and_i, is_true, is_false}
 use Rattle.numbers.proofs.Below.{count_none, count_suc, count-those, those_same, tabulate_at}
 use Rattle.cube.proofs.McCluskey.{agreement}
 use Rattle.matrix.specs.Sets.{has, In, Meeting}
@@ -109,12 +110,12 @@ module _ (n : ℕ) (t words : List ℕ) (sole : ℕ) (p : words ≡ tabulate (3 
     to : (c : ℕ) × In (get_or words q 0) c × In sole c → T (essential n t q)
     to r =
         let c = r.0 in
-        let entry = holds (prime n t q && (ltb c (2 ^ n) && column n t q c)) (sym (has-prime q c l) ∙ r.1) in
+        let entry = passes (prime n t q && (ltb c (2 ^ n) && column n t q c)) (sym (has-prime q c l) ∙ r.1) in
         let inside = and_r (prime n t q) (ltb c (2 ^ n) && column n t q c) entry in
         let below : c < 2 ^ n = ltb→lt c (2 ^ n) (and_l (ltb c (2 ^ n)) (column n t q c) inside) in
         let wanted = and_l (on_set t c) (cube_matches n q c) (and_r (ltb c (2 ^ n)) (column n t q c) inside) in
         let matched = and_r (on_set t c) (cube_matches n q c) (and_r (ltb c (2 ^ n)) (column n t q c) inside) in
-        let one = eqb→eq (entries words (3 ^ n) c) 1 (holds (eqb (entries words (3 ^ n) c) 1) (sym (s c) ∙ r.2)) in
+        let one = eqb→eq (entries words (3 ^ n) c) 1 (passes (eqb (entries words (3 ^ n) c) 1) (sym (s c) ∙ r.2)) in
         let row = ((agreement n t).primes q l).0 (and_l (prime n t q) (ltb c (2 ^ n) && column n t q c) entry) in
         ((agreement n t).essentials q l).1 (record {
           row = row;

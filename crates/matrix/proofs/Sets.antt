@@ -9,10 +9,10 @@ use lib.Dec.{ltb, leb}
 use lib.ListN.{length, length-append, get_or, drop}
 use borrow.Author.Tests.{lt-ltb, le-leb, lt-leb, leb-true}
 use Rattle.std.specs.Prelude.{Option, None, Some}
+use Rattle.std.proofs.lemmas.Bool.{and_parts}
 use Rattle.covering.specs.Sum.{if_set, sum}
 use Rattle.covering.specs.Weighted.{set_size}
 use Rattle.numbers.specs.Below.{those}
-use Rattle.numbers.proofs.Flags.{both_of}
 use Rattle.numbers.specs.Ascending.{TakesLeast}
 use Rattle.matrix.specs.Sets.{word_bits, has_bit, has_raised, member, Next, NextIfAny}
 use Rattle.matrix.specs.Walks.{bits_end, bits_left, left_behind, rows_end, rows_left, YieldsRows}
@@ -64,7 +64,7 @@ next_of set from end None a t e h l n = record {
   here = λ k. absurd (omega arith);
 }
 next_of set from end (Some x) a t e h l n =
-    let b = both_of (leb from x) (member set x) (h x) n.here in (
+    let b = and_parts (leb from x) (member set x) (sym (h x) ∙ n.here) in (
       omega (arith, n.within),
       record {
         above = leb-true from x b.0;

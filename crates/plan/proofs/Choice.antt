@@ -8,11 +8,12 @@ use native.Mathlib.Omega.{arith}
 use lib.Dec.{T, leb, le→leb, ltb, ltb→lt, lt→ltb}
 use lib.ListN.{length, length-map, get_or}
 use Rattle.std.proofs.lemmas.List.{get_or-map}
+use Rattle.std.specs.Bool.{passes}
 use Rattle.numbers.specs.Below.{those, word_of}
 use Rattle.cube.specs.Words.{on_set, Cover, cover_literals, row_of, serving_primes_of}
 use Rattle.cube.specs.Calls.{widest}
 use Rattle.cube.specs.Minimum.{Minimum}
-use Rattle.numbers.proofs.Bools.{and_l, and_r, and_i, is_true, holds}
+use Rattle.numbers.proofs.Bools.{and_l, and_r, and_i, is_true}
 use Rattle.numbers.proofs.Below.{those_ascend}
 use Rattle.cube.proofs.Calls.{code_pairs_most}
 use Rattle.cube.proofs.Minimum.{minimum_rows}
@@ -38,7 +39,7 @@ module _ (n : ℕ) (t : List ℕ) where
 
   wanted_columns : (c : ℕ) → In wanted_word c → (c < 2 ^ n) × T (on_set t c)
   wanted_columns c h =
-      let b = holds (ltb c (2 ^ n) && on_set t c) (sym (wanted_is c) ∙ h) in
+      let b = passes (ltb c (2 ^ n) && on_set t c) (sym (wanted_is c) ∙ h) in
       (ltb→lt c (2 ^ n) (and_l (ltb c (2 ^ n)) (on_set t c) b), and_r (ltb c (2 ^ n)) (on_set t c) b)
 
   columns_wanted : (c : ℕ) → c < 2 ^ n → T (on_set t c) → In wanted_word c
