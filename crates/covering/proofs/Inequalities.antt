@@ -7,7 +7,7 @@ use mathlib.Core.List.{List, [], ◌∷◌}
 use mathlib.Core.Logic.{◌⊎◌, inl, inr, ⊎_elim}
 use mathlib.Core.Bool.{Bool, true, false, ◌||◌}
 use Prim.Native.Nat.{ℕ, zero, suc, ◌+◌, ◌-◌, ◌*◌, ◌/◌, ◌≤◌, ◌<◌, max}
-use native.Mathlib.Nat.{mul-le-mul_left, div-lt_iff_lt-mul, max-le}
+use native.Mathlib.Nat.{mul-le-mul_left, max-le}
 use native.Mathlib.Decide.{ℕ_discrete}
 use native.Mathlib.Omega.{arith}
 use lib.Dec.{eqb}
@@ -20,7 +20,7 @@ use Rattle.covering.specs.Search.{only}
 use Rattle.covering.specs.Inequalities.{Has, NoRow, OnlyRow, Rival, Valid, Needs, AtLeastWith, excess}
 use Rattle.numbers.proofs.Flags.{clash, either_of}
 use Rattle.covering.proofs.Sums.{sum_mono, sum-add, sum_skip, if_set_true, if_set_false, if_set_le}
-use Rattle.covering.proofs.Bounds.{within_mono, weight_le, weight-add, weight_times, hitter}
+use Rattle.covering.proofs.Bounds.{within_mono, weight_le, weight-add, weight_times, rounded_up, hitter}
 use Rattle.covering.proofs.Sets.{rows_within, rows_hit, rows_weight}
 
 -- ---- selections
@@ -134,12 +134,8 @@ module _ (cov : ℕ → ℕ → Type 0) (w : ℕ → ℕ) where
     pub valid_divided : {v a : ℕ → ℕ} {k : ℕ} (d : ℕ) → 0 < d → ((i : ℕ) → A i → v i ≤ d * a i) → Valid cov w A U limit R v k
         → Valid cov w A U limit R a ((k + (d - 1)) / d)
     valid_divided {a = a} {k = k} d pos f x = record {
-      bound = λ L q. round (weight a L) (omega (arith, x.bound L q, weight_le f L q.within, weight_times d a L));
+      bound = λ L q. rounded_up d k (weight a L) pos (omega (arith, x.bound L q, weight_le f L q.within, weight_times d a L));
     }
-      where
-        round : (m : ℕ) → k ≤ d * m → (k + (d - 1)) / d ≤ m
-        round m h = let e : k + (d - 1) < suc m * d = omega arith in
-            let g : (k + (d - 1)) / d < suc m = (div-lt_iff_lt-mul pos).1 e in omega arith
 
     -- the rows of a rival below n, each once, where the others cover nothing
     rival_once : (n : ℕ) → ((i c : ℕ) → n ≤ i → cov i c → ⊥) → ((r : ℕ) → R r → r < n) → (L : List ℕ) → Rival cov w A U limit R L
