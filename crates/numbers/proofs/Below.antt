@@ -11,6 +11,7 @@ use lib.Dec.{T, eqb, eqb→eq, eqb_refl, lit<, T_not, not_T}
 use lib.ListN.{length, length-append, get_or, get_or-append}
 use lib.Seq.{get_or-append_seam}
 use Rattle.std.specs.Bool.{passes}
+use Rattle.std.specs.List.{list_any}
 use Rattle.std.proofs.lemmas.Bool.{cases_lt}
 use Rattle.numbers.specs.Below.{flag, every, some, those, count, EachOnce, tabulate}
 use Rattle.numbers.proofs.Bools.{and_l, and_r, and_i, or_e, or_l, or_r, or_exchange, same, is_true, is_false}
@@ -81,6 +82,15 @@ pub some_front : (m : ℕ) (f : ℕ → Bool) → some (suc m) f ≡ (f 0 || som
 unfolding some
 some_front zero f = refl
 some_front (suc m) f = ap (λ (b : Bool). f (suc m) || b) (some_front m f) ∙ or_exchange (f (suc m)) (f 0) (some m (λ k. f (suc k)))
+
+-- what `any` answers over a list of m items, where item i passes f as number i passes g
+pub any_is_some : {A : Type 0} (f : A → Bool) (g : ℕ → Bool) (d : A) (xs : List A) {m : ℕ} → length xs ≡ m → ((i : ℕ) → i < m → f (get_or xs i d) ≡ g i)
+    → list_any f xs ≡ some m g
+unfolding some
+any_is_some f g d [] e h = ap (λ (k : ℕ). some k g) e
+any_is_some f g d (x ∷ xs) e h =
+    ap₂ ◌||◌ (h 0 (omega arith)) (any_is_some f (λ i. g (suc i)) d xs refl (λ i l. h (suc i) (omega arith))) ∙ sym (some_front (length xs) g)
+    ∙ ap (λ (k : ℕ). some k g) e
 
 -- ---- those that pass
 
