@@ -11,7 +11,7 @@ use Rattle.plan.specs.declared.Totals.{Totals}
 use Rattle.plan.proofs.Refusals.{plannable}
 use Rattle.plan.proofs.Answers.{not_refused}
 use Rattle.plan.proofs.Endings.{plan_refused}
-use Rattle.plan.proofs.Theorems.{arrays_hold}
+use Rattle.plan.proofs.Theorems.{held, arrays_hold}
 use Rattle.keep_out.specs.KeepOut.{PlansKeepOut}
 use Rattle.keep_out.specs.Theorems.{exchanged, PlansExchanged, HeldKeepOut, ArraysKeepOut}
 use Rattle.keep_out.proofs.Exchanging.{exchange}
@@ -50,16 +50,15 @@ module _ (n : ℕ) (t values cares : List ℕ) where
     pub plans_exchanged : (r : Result Totals Refusal) → PlansExchanged n t values cares values' cares' r
     plans_exchanged r = (to_plan r, from_plan r)
 
-    held : (totals : Totals) → PlansKeepOut n t values cares values' cares' (Ok totals) → HeldKeepOut n t values cares values' cares' totals
-    held totals p =
+    held_keep_out : (totals : Totals) → PlansKeepOut n t values cares values' cares' (Ok totals) → HeldKeepOut n t values cares values' cares' totals
+    held_keep_out totals p =
         let q = to_plan (Ok totals) p in
-        let held = (arrays_hold n (exchanged t) values cares values' cares').counted totals q in
-        let long = cells (sym same ∙ not_refused n (exchanged t) values cares values' cares' totals q) in
-        record { held = held; minimum = ((exchange n t).lists long _).1 held.minimum }
+        let long = cells (sym same ∙ not_refused q) in
+        record { held = held q; minimum = ((exchange n t).lists long _).1 (held q).minimum }
 
     pub arrays_keep_out : ArraysKeepOut n t values cares values' cares'
     arrays_keep_out = record {
-      counted = held;
+      counted = held_keep_out;
       accepted = λ r e p. let d = (arrays_hold n (exchanged t) values cares values' cares').accepted r (same ∙ e) (to_plan r p) in (d.totals, d.answer);
     }
 

@@ -11,9 +11,9 @@ use lib.Seq.{get_or-set_same, get_or-set_other}
 use denote.Param.Members.{Mut, Called}
 use Rattle.std.specs.Array.{IsFromFnResult}
 use borrow.Author.Tests.{eq-eqb, ne_eqb, lt-ltb, le-ltb, le-leb, lt-leb}
+use Rattle.std.proofs.lemmas.Bool.{false_from_ne_true}
 use Rattle.matrix.specs.Sets.{word_bits, row_words, has_bit, member, Next}
 use Rattle.matrix.specs.Walks.{left_behind}
-use Rattle.numbers.proofs.Flags.{not_set}
 use Rattle.matrix.proofs.Bits.{has_zero}
 use Rattle.matrix.proofs.Made.{made}
 
@@ -127,7 +127,7 @@ module _ (word : ℕ) (rest : List ℕ) (base : ℕ) where
 
         go : Dec (j < base) → Dec (j < base + word_bits) → left_behind rest (base + word_bits) j ≡ left_behind (word ∷ rest) base j
         go (yes l) d = off _ (lt-leb (base + word_bits) j (omega arith)) ∙ sym (left_no j l)
-        go (no n) (yes l) = off _ (lt-leb (base + word_bits) j l) ∙ sym (left_bit j (omega arith) (omega arith) ∙ not_set _ (none (j - base)))
+        go (no n) (yes l) = off _ (lt-leb (base + word_bits) j l) ∙ sym (left_bit j (omega arith) (omega arith) ∙ false_from_ne_true _ (none (j - base)))
         go (no n) (no m) = let e : j - (base + word_bits) ≡ j - base - word_bits = omega arith in
             ap (λ (b : Bool). b && member rest (j - (base + word_bits))) (le-leb (base + word_bits) j (omega arith)) ∙ ap (member rest) e
             ∙ sym (left_row j (omega arith) (omega arith))
@@ -138,7 +138,7 @@ module _ (word : ℕ) (rest : List ℕ) (base : ℕ) where
       where
         go : Dec (j < base) → left_behind (word ∷ rest) base j ≡ false
         go (yes n) = left_no j n
-        go (no n) = left_bit j (omega arith) (omega arith) ∙ not_set _ (none (j - base))
+        go (no n) = left_bit j (omega arith) (omega arith) ∙ false_from_ne_true _ (none (j - base))
 
     pub left_end : length rest ≡ 0 → (j : ℕ) → left_behind (word ∷ rest) base j ≡ false
     left_end e j = go (dec_lt j (base + word_bits))

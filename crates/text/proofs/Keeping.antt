@@ -10,9 +10,9 @@ use lib.ListN.{length, length-append}
 use lib.Seq.{length-take-le, take_all}
 use borrow.Author.Tests.{ne_eqb}
 use Rattle.std.proofs.lemmas.List.{take-append-le}
+use Rattle.std.proofs.lemmas.Bool.{cases_lt}
 use Rattle.cube.specs.Words.{Cover}
 use Rattle.cube.specs.Calls.{widest, bad_width, bad_length, bad_cell, Condition, when, first_of, table_conditions, Answer, refuses, gives}
-use Rattle.numbers.proofs.Bools.{lt_or_le}
 use Rattle.cube.proofs.Calls.{width_to, codes_most, first_holds, accepted}
 use Rattle.text.specs.Input.{Table, read}
 use Rattle.text.specs.Output.{table_text, printed, output_by}
@@ -47,7 +47,7 @@ pub record Keeping (n : ℕ) (cells : List ℕ) : Type 0 where
   pub whole : first_of (table_conditions n cells) ≡ 0 → keep cells ≡ cells
 
 pub keeping : (n : ℕ) (cells : List ℕ) → Keeping n cells
-keeping n cells = ⊎_elim long short (lt_or_le most_cells (length cells))
+keeping n cells = ⊎_elim long short (cases_lt most_cells (length cells))
   where
     short : length cells ≤ most_cells → Keeping n cells
     short l =
