@@ -13,4 +13,4 @@ pub returns : goal.returns
 returns c =
     ap₂ (λ (v w : ℕ). record { value = v; care = w })
     (ap (λ (r : Row). r.value) c.of_six-row.ensures ∙ value_low c.args.self.width widest c.args.self.number c.args.self.narrow c.args.self.numbered)
-    (low_is _ _ _ _ c.args.self.narrow c.of_six-row.ensures c.codes.ensures)
+    (ap (λ (i : ℕ). i % c.codes.result) c.from.ensures ∙ low_is _ _ _ _ c.args.self.narrow c.of_six-row.ensures c.codes.ensures)
