@@ -1,5 +1,5 @@
 -- `primes::cube_kind` meets its contract: a cube that is an implicant splits as its codes do, and so does one that serves. Assumes nothing.
-use mathlib.Core.Path.{◌≡◌, sym, ap₂, ◌∙◌}
+use mathlib.Core.Path.{◌≡◌, sym, ap, ap₂, ◌∙◌}
 use mathlib.Core.Bool.{not}
 use mathlib.Core.List.{List, [], ◌∷◌}
 use Prim.Native.Nat.{ℕ}
@@ -28,7 +28,7 @@ module _ (n : ℕ) (t : List ℕ) (q : ℕ) (r : Kind) where
       ∙ sym (ap₂ kind (implicant_two n t q a b s.2) (serves_two n t q a b s.2))
 
 pub returns-in-Code : goal.returns-in-Code
-returns-in-Code c = of_code _ c.args.table.cells.now _ _ _ c.in-Code.ensures.1 c.code_kind.ensures
+returns-in-Code c = of_code _ c.args.table.cells.now _ _ _ (c.in-Code.ensures.1 ∙ ap (λ (i : ℕ). i ∷ []) (sym c.from.ensures)) c.code_kind.ensures
 
 pub returns-in-Halves : goal.returns-in-Halves
 returns-in-Halves c = of_halves _ c.args.table.cells.now _ _ c.args.kinds.now c.requires.lower _ _ c.in-Halves.ensures c.joined_kind.ensures
