@@ -1,4 +1,4 @@
--- Which of two counts are those of a better list, by rows and then by tested bits, as a test and as a proposition. Assumes nothing.
+-- Which of two counts are those of a better list, by rows and then by tested bits: what the test tells. Each by cases. Assumes nothing.
 use mathlib.Core.Path.{◌≡◌}
 use mathlib.Core.Bool.{true, false}
 use Prim.Native.Nat.{ℕ}
@@ -8,8 +8,6 @@ use Rattle.cube.specs.Minimum.{NoBetter}
 use Rattle.plan.specs.declared.Totals.{Totals}
 use Rattle.better.specs.Better.{is_better}
 use Rattle.better.specs.Theorems.{Worse}
-
--- ---- as a test
 
 module _ (a b : Totals) where
   pub not_better : is_better a b ≡ false → NoBetter a.rows a.bits b.rows b.bits
