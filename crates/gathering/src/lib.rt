@@ -32,7 +32,7 @@ fn row_codes(n: usize, row: Row) -> columns::Set
     requires { (n ≤ widest) × (formed n row ≡ true) }
     ensures { HoldsExactly n (row_matches row) result }
 {
-    let mut matched = columns::Set::only(row.value as usize);
+    let mut matched = columns::Set::only(usize::from(row.value));
     for bit in 0..n {
         matched = with_bit(row.care, bit, matched);
     }
@@ -40,7 +40,7 @@ fn row_codes(n: usize, row: Row) -> columns::Set
 }
 
 // Gathers the codes that any row matches. Each row is looked at once: its form is tested, and its codes are added.
-pub fn gather(n: usize, rows: Rows<'_>) -> Result<columns::Set, Refusal>
+pub fn gather(n: usize, rows: Rows) -> Result<columns::Set, Refusal>
     requires { n ≤ widest }
     ensures { Gathers n (rows_of rows.entry.values.now rows.entry.cares.now) result }
 {

@@ -4,7 +4,7 @@
 //     Rows::formed(4, &[8], &[7])     // Err(Refusal::UnformedRow): value 8 has a one outside care 7
 #![tactic(auto, using(cube::proofs::Calls::refusals, cube::proofs::Lists::rows_length))]
 
-ghost use Rattle.std.specs.Prelude.{◌≡◌, ◌≤◌, [], ◌∷◌, length, IfOk, OnOk};
+ghost use Rattle.std.specs.Prelude.{◌≡◌, ◌≤◌, [], ◌∷◌, length, eqb, IfOk, OnOk};
 ghost use Rattle.cube.specs.Words.{formed, all_formed, rows_of};
 ghost use Rattle.cube.specs.Calls.{most_rows, bad_row, list_conditions, when, first_of, refusal_of};
 ghost use Rattle.lists.specs.Steps.{length_conditions};
@@ -28,7 +28,8 @@ pub fn is_formed(n: usize, row: Row) -> bool
     usize::from(row.care) < 1 << n.min(BITS) && row.value & row.care == row.value
 }
 
-// A list of rows in two arrays: row i is place i of the values with place i of the cares. Not a slice of `Row`s, since C lends two arrays.
+// A list of rows in two arrays: row i is place i of the values with place i of the cares. Not a slice of `Row`s, since C lends two arrays; and no width stands in
+// it, since C gives Check and Write the width apart.
 #[derive(Clone, Copy)]
 pub struct Rows<'a> {
     pub values: &'a [u8],
@@ -89,6 +90,20 @@ impl<'a> Rows<'a> {
             return Err(Refusal::TooManyRows);
         }
         Ok(Rows { values, cares })
+    }
+
+    // How many rows it has.
+    pub fn len(self) -> usize
+        ensures { result ≡ length self.entry.values.now }
+    {
+        self.values.len()
+    }
+
+    // Whether it has no row.
+    pub fn is_empty(self) -> bool
+        ensures { result ≡ eqb (length self.entry.values.now) 0 }
+    {
+        self.values.is_empty()
     }
 
     // Whether every row is formed at width n.
