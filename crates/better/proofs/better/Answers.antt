@@ -12,10 +12,6 @@ pub returns-in_err-list : goal.returns-in_err-list
 returns-in_err-list c =
     absurd (list_drafted c.args.n c.args.table.now c.args.values.now c.args.cares.now (sym c.in_ok-accept.ensures.refusal) _ (search rules) (search rules) c.in_err-list.ensures)
 
-pub returns-in_err-excluding : goal.returns-in_err-excluding
-returns-in_err-excluding c =
-    absurd (excluding_drafted c.args.n c.args.table.now c.args.values.now c.args.cares.now (sym c.in_ok-accept.ensures.refusal) _ (search rules) (search rules) c.in_err-excluding.ensures)
-
 pub write-requires : goal.write-requires
 write-requires c =
     fits c.args.n c.args.table.now c.args.values.now c.args.cares.now (sym c.in_ok-accept.ensures.refusal) _

@@ -4,9 +4,6 @@ use Rattle.plan.specs.Steps.{Chosen}
 use Rattle.plan.proofs.Endings.{cubes_most, plan_refused, plan_done}
 use Rattle.plan.proofs.plan.Goals as goal
 
-pub returns-in_err-table : goal.returns-in_err-table
-returns-in_err-table c = search (rules, plan_refused)
-
 pub write_rows-requires : goal.write_rows-requires
 write_rows-requires c =
     let list = c.shortest-list.result in
