@@ -24,6 +24,7 @@ pub fn cover(problem: &Subproblem, limit: u64) -> Option<Cover>
 {
     let matrix = problem.matrix;
     let mut taken = Gathered::none();
+    // Nothing counts the rows: they are taken until no column is open.
     loop {
         let open = problem.undecided - taken.columns;
         if open.is_empty() {

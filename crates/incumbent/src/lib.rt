@@ -7,7 +7,7 @@
 ghost use Rattle.std.specs.Prelude.{◌≡◌, false, List, ℕ, ◌<◌, ◌≤◌, ◌||◌, eqb, IfSome, IfNone};
 ghost use Rattle.matrix.specs.Matrix.{row_count};
 ghost use Rattle.matrix.specs.Sets.{In, member, Member};
-ghost use Rattle.incumbent.specs.Incumbent.{IsCover, Incumbent};
+ghost use Rattle.incumbent.specs.Incumbent.{weight_or, IsCover, Incumbent};
 ghost use Rattle.incumbent.specs.Steps.{Counted};
 
 use matrix::{Matrix, Subproblem, columns, rows};
@@ -20,6 +20,16 @@ pub mod local;
 pub struct Cover {
     pub weight: u64,
     pub rows: rows::Set,
+}
+
+// The limit of a search for a lighter cover: what this one weighs, or the limit so far where there is none.
+pub fn limit_with(cover: &Option<Cover>, limit: u64) -> u64
+    ensures { result ≡ weight_or limit cover.now }
+{
+    match cover {
+        Some(found) => found.weight,
+        None => limit,
+    }
 }
 
 // Rows, the columns that they cover, and what they weigh.

@@ -13,7 +13,7 @@ pub mod rows;
 pub mod transposed;
 pub mod words;
 
-// A covering matrix: the columns of each row, and its weight.
+// A covering matrix: the columns of each row, and its weight. Two slices and not one of pairs: C lends two.
 #[derive(Clone, Copy)]
 pub struct Matrix<'a> {
     pub words: &'a [columns::Set],

@@ -30,3 +30,19 @@ impl ByColumn {
         &self.sets[c]
     }
 }
+
+// What is left of a matrix, with its rows by column.
+#[derive(Clone, Copy)]
+pub struct Indexed<'a> {
+    pub problem: Subproblem<'a>,
+    pub by_column: &'a ByColumn,
+}
+
+impl<'a> Indexed<'a> {
+    // The rows noted at the column c.
+    pub fn rows_at(&self, c: usize) -> &'a rows::Set
+        requires { c < column_limit }
+    {
+        self.by_column.at(c)
+    }
+}

@@ -44,6 +44,7 @@ pub fn cyclic_core(problem: &Subproblem) -> Remaining
     };
     let end = problem.matrix.rows();
     let mut size = problem.live.len(end);
+    // Nothing counts the rounds: the last is the one after which as many rows are live as before.
     loop {
         pass(problem.matrix, &mut state);
         let fewer = state.live.len(end);

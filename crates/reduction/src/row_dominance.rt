@@ -20,7 +20,8 @@ fn dominates(problem: &Subproblem, i: usize, j: usize) -> bool
         && problem.live.contains(j)
 }
 
-// Whether the row i can be dropped: it covers no undecided column, or one of the rows that are noted at its first one dominates it.
+// Whether the row i can be dropped: it covers no undecided column, or one of the rows that are noted at its first one dominates it. The rows by column stay
+// as they were at first while the live rows get fewer, so they are no part of the sub-problem here.
 #[tactic(auto, using(numbers::proofs::Closures::asked))]
 fn is_droppable(problem: &Subproblem, by_column: &ByColumn, i: usize) -> bool
     requires { i < row_count problem.now.matrix.words.now }
@@ -35,7 +36,7 @@ fn is_droppable(problem: &Subproblem, by_column: &ByColumn, i: usize) -> bool
     }
 }
 
-// Drops each live row that can be dropped.
+// Drops each live row that can be dropped. The parts of a `Subproblem` come one by one, since the rows are lent to be changed and it only reads them.
 pub fn drop_rows(matrix: Matrix, live: &mut rows::Set, undecided: columns::Set)
     ensures { Keeps matrix.entry.words.now matrix.entry.weights.now live.old undecided live.new undecided }
 {

@@ -9,9 +9,9 @@ ghost use Rattle.matrix.specs.Matrix.{row_count, weight_limit};
 ghost use Rattle.matrix.specs.Sets.{row_limit, In, Member};
 ghost use Rattle.search.specs.Search.{Coverable, MinimumCover};
 ghost use Rattle.bound.specs.Bound.{cost_limit};
-ghost use Rattle.search.specs.Steps.{BranchesBelow, Found, IsSmall, Lighter, Taking, weight_or, WithTaken};
+ghost use Rattle.search.specs.Steps.{BranchesBelow, Found, IsSmall, Lighter, Taking, WithTaken};
 
-use incumbent::{Cover, greedy};
+use incumbent::{Cover, greedy, limit_with};
 use matrix::{Matrix, Subproblem, columns, rows};
 
 pub mod branching;
@@ -25,16 +25,6 @@ pub struct Solution {
     pub cover: Option<Cover>,
     pub nodes: u64,
     pub depth: u64,
-}
-
-// The limit of a search for a lighter cover: what this one weighs, or the limit so far where there is none.
-fn limit_with(cover: &Option<Cover>, limit: u64) -> u64
-    ensures { result ≡ weight_or limit cover.now }
-{
-    match cover {
-        Some(found) => found.weight,
-        None => limit,
-    }
 }
 
 // The row r, of weight w, with the answer for what it leaves.
@@ -90,6 +80,7 @@ fn leaf(cover: Option<Cover>) -> Solution
 }
 
 // Leaves the live rows that a cover below the limit can have, and answers the one of these to branch on, or `None` where no cover is below the limit.
+// The parts of a `Subproblem` come one by one, since the rows are lent to be changed and it only reads them.
 #[inline(never)]
 fn branch_point(
     matrix: Matrix,

@@ -4,7 +4,7 @@ ghost use Rattle.matrix.specs.Matrix.{row_count};
 ghost use Rattle.symmetry.specs.Steps.{StandsIn, Image};
 
 use crate::exchanges::Exchange;
-use matrix::transposed::ByColumn;
+use matrix::transposed::Indexed;
 use matrix::{Matrix, Subproblem, columns, rows};
 
 // Whether the row j is a live row that weighs no more than i and covers the columns of a set.
@@ -32,19 +32,17 @@ fn stand_in(
         .find(|&j| stands_in(matrix, live, set, i, j))
 }
 
-// An image of the row i by an exchange, if one is found.
-pub fn image(
-    problem: &Subproblem,
-    by_column: &ByColumn,
-    exchange: &Exchange,
-    i: usize,
-) -> Option<usize>
-    requires { i < row_count problem.now.matrix.words.now }
-    ensures below { IfSome result (λ j. j < row_count problem.now.matrix.words.now) }
-    ensures image { let p = problem.now in IfSome result (λ j. Image p.matrix.words.now p.matrix.weights.now p.live.now p.undecided exchange.now i j) }
+// An image of the row i by an exchange, if one is found. Where the image of its columns has no undecided one, any live row that weighs no more stands in.
+pub fn image(indexed: &Indexed, exchange: &Exchange, i: usize) -> Option<usize>
+    requires { i < row_count indexed.now.problem.matrix.words.now }
+    ensures below { IfSome result (λ j. j < row_count indexed.now.problem.matrix.words.now) }
+    ensures image { let p = indexed.now.problem in IfSome result (λ j. Image p.matrix.words.now p.matrix.weights.now p.live.now p.undecided exchange.now i j) }
 {
-    let matrix = problem.matrix;
-    let set = exchange.of_set(matrix.columns_of(i)) & problem.undecided;
-    let candidates = by_column.at(set.first().unwrap_or(0));
-    stand_in(matrix, problem.live, candidates, set, i)
+    let Subproblem { matrix, live, undecided } = indexed.problem;
+    let set = exchange.of_set(matrix.columns_of(i)) & undecided;
+    let candidates = match set.first() {
+        Some(c) => indexed.rows_at(c),
+        None => live,
+    };
+    stand_in(matrix, live, candidates, set, i)
 }

@@ -6,4 +6,4 @@ use Rattle.matrix.proofs.rows.Set.contains.Goals as goal
 
 pub returns : goal.returns
 unfolding member
-returns c = c.contains.ensures ∙ ap (λ (w : ℕ). has_bit w (c.args.i % word_bits)) c.word.ensures
+returns c = c.contains.ensures ∙ ap (λ (w : ℕ). has_bit w (c.args.i % word_bits)) c.word.ensures.is
