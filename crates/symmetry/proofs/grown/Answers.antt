@@ -10,12 +10,6 @@ loop-i-preserved-then-contains c =
     c.loop-i.yielded_by c.next.ensures.steps c.in-Some.i c.in-Some.is in
     passed_found _ _ _ _ _ c.in-Some-image.ensures.image turn c.loop-i.invariant (sym c.contains.ensures ∙ c.if-contains.true) c.insert.ensures
 
-pub loop-i-preserved : goal.loop-i-preserved
-loop-i-preserved c =
-    let turn = rows_turn _ _ _ _ _ _ _ _ c.into_iter-i-iterator.ensures.into_iter_gives c.iter-i-items.ensures.end c.iter-i-items.ensures.set
-    c.loop-i.yielded_by c.next.ensures.steps c.in-Some.i c.in-Some.is in
-    passed_other _ _ _ _ _ c.in-Some-image.ensures.image turn c.loop-i.invariant
-
 pub returns : goal.returns
 returns c =
     let ended = rows_end_has _ _ _ _ _ _ _ _ c.into_iter-i-iterator.ensures.into_iter_gives c.iter-i-items.ensures.end c.iter-i-items.ensures.set
