@@ -70,6 +70,7 @@ impl Set {
 
     // Whether the row i is in the set.
     #[inline]
+    #[tactic(auto, unfolding(crate::specs::Sets::member))]
     pub fn contains(&self, i: usize) -> bool
         requires { i < row_limit }
         ensures { result ≡ member self.now i }
@@ -108,7 +109,7 @@ impl Set {
         }
     }
 
-    // The rows that the other set lacks.
+    // The rows that the other set lacks. A search that branches on orbits takes one out of the live rows by it.
     pub fn difference(&self, other: &Set) -> Set
         ensures { (j : ℕ) → member result j ≡ (member self.now j && not (member other.now j)) }
     {

@@ -38,7 +38,11 @@ pub fn image(indexed: &Indexed, exchange: &Exchange, i: usize) -> Option<usize>
     ensures below { IfSome result (λ j. j < row_count indexed.now.problem.matrix.words.now) }
     ensures image { let p = indexed.now.problem in IfSome result (λ j. Image p.matrix.words.now p.matrix.weights.now p.live.now p.undecided exchange.now i j) }
 {
-    let Subproblem { matrix, live, undecided } = indexed.problem;
+    let Subproblem {
+        matrix,
+        live,
+        undecided,
+    } = indexed.problem;
     let set = exchange.of_set(matrix.columns_of(i)) & undecided;
     let candidates = match set.first() {
         Some(c) => indexed.rows_at(c),

@@ -1,7 +1,7 @@
 -- `symmetry::grown` meets its contract: what an item and the end of the loop tell. Assumes nothing.
 use Rattle.std.proofs.Common.{arith, sym, ◌∙◌}
 use Rattle.matrix.proofs.Loops.{rows_turn, rows_end_has}
-use Rattle.symmetry.proofs.Growing.{passed_found, passed_other, grown_all}
+use Rattle.symmetry.proofs.Growing.{passed_found, grown_all}
 use Rattle.symmetry.proofs.grown.Goals as goal
 
 pub loop-i-preserved-then-contains : goal.loop-i-preserved-then-contains
