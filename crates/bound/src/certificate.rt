@@ -102,7 +102,6 @@ impl<'a, 'b> DualSolution<'a, 'b> {
     }
 
     // The live rows without those that are in no cover below the limit.
-    #[tactic(auto, using(crate::proofs::Pricing::kept_all))]
     fn kept(&self) -> rows::Set
         ensures { Kept self.now.problem.matrix.words.now self.now.problem.matrix.weights.now self.now.problem.live.now self.now.problem.undecided self.now.limit result }
     {
@@ -117,7 +116,7 @@ impl<'a, 'b> DualSolution<'a, 'b> {
 }
 
 // What prices for the columns show: nothing, unless they are a certificate. Drops the live rows that no cover below the limit can have, and returns a lower bound.
-#[tactic(auto, using(crate::proofs::Pricing::kept_all))]
+// The parts of a `Subproblem` come one by one, as in `crate::tighten_by`.
 pub fn certified(
     matrix: Matrix,
     live: &mut rows::Set,
@@ -128,10 +127,9 @@ pub fn certified(
     requires { limit < cost_limit }
     ensures { Bounds matrix.entry.words.now matrix.entry.weights.now live.old undecided limit result live.new }
 {
-    let all = *live;
     let problem = Subproblem {
         matrix,
-        live: &all,
+        live,
         undecided,
     };
     if !feasible(&problem, prices) {

@@ -30,6 +30,7 @@ fn tighten_by<F: Fn(&Problem) -> Prices>(
     requires small { limit < cost_limit }
     ensures { Bounds matrix.entry.words.now matrix.entry.weights.now live.old undecided limit result live.new }
 {
+    // The ascent reads a copy of the rows: where the rows themselves are handed to it, each level of the search takes 208 bytes more of stack.
     let first = *live;
     let covering = Subproblem {
         matrix,
