@@ -140,7 +140,7 @@ impl Recalled {
     // Notes a variable that is basic, if it is a price.
     fn note(&mut self, variable: Variable) {
         match variable.meaning {
-            Meaning::Price(c) => self.basic = self.basic | columns::Set::only(c),
+            Meaning::Price(c) => self.basic |= columns::Set::only(c),
             Meaning::Fee => self.fee = true,
             Meaning::Slack(_) => {}
         }
@@ -192,7 +192,7 @@ fn load_row(line: &mut Line, problem: &Subproblem, places: &Places, i: usize)
     requires { i < row_count problem.now.matrix.words.now }
 {
     *line = [0.0; PLACES + 1];
-    for c in problem.matrix.columns_of(i) & problem.undecided {
+    for c in problem.columns_of(i) {
         line[place_of(problem.undecided, c)] = 1.0;
     }
     line[problem.undecided.len()] = 1.0;
@@ -206,7 +206,7 @@ fn load_rows(
     cells: &mut Cells,
 ) -> Option<ArrayVec<Variable, ROWS>> {
     let mut rows = ArrayVec::new();
-    for i in problem.live.iter(problem.matrix.rows()) {
+    for i in problem.rows() {
         if rows.is_full() {
             return None;
         }
@@ -336,23 +336,22 @@ impl<'a> Tableau<'a> {
     fn entering(&self) -> Option<usize>
         ensures { IfSome result (λ q. q < array_vec_len self.now.places) }
     {
-        let mut best = None;
-        let mut highest = 0.0;
+        let mut best: Option<(usize, f32)> = None;
         let cells = &*self.cells;
         for (q, (variable, gain)) in self.places.iter().zip(&cells[self.rows.len()]).enumerate() {
             let rated = *gain * variable.factor;
-            if LEAST_GAIN < *gain && highest < rated {
-                highest = rated;
-                best = Some(q);
+            if LEAST_GAIN < *gain && best.is_none_or(|(_, highest)| highest < rated) {
+                best = Some((q, rated));
             }
         }
-        best
+        best.map(|(q, _)| q)
     }
 
     // The least ratio of a right side, with the tolerance, to an entry at the place q.
     fn least_ratio(&self, q: usize) -> f32
         requires { q < array_vec_len self.now.places }
     {
+        // No row limits the price so far. Not infinity, which would take a right side above 10^28 for a limit too.
         let mut ratio = 1.0e30;
         let side = self.places.len();
         for line in &self.cells[..self.rows.len()] {
@@ -367,17 +366,15 @@ impl<'a> Tableau<'a> {
         ensures { IfSome result (λ p. p < array_vec_len self.now.rows) }
     {
         let ratio = self.least_ratio(q);
-        let mut best = None;
-        let mut widest = 0.0;
+        let mut best: Option<(usize, f32)> = None;
         let side = self.places.len();
         for (p, line) in self.cells[..self.rows.len()].iter().enumerate() {
             let entry = line[q];
-            if widest < entry && is_pivot(ratio, line[side], entry) {
-                widest = entry;
-                best = Some(p);
+            if best.is_none_or(|(_, widest)| widest < entry) && is_pivot(ratio, line[side], entry) {
+                best = Some((p, entry));
             }
         }
-        best
+        best.map(|(p, _)| p)
     }
 
     // Makes the variable at the place q basic in the row p, in exchange for that row's.
