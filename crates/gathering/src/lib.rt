@@ -49,7 +49,7 @@ pub fn gather(n: usize, rows: Rows) -> Result<columns::Set, Refusal>
         if !lists::is_formed(n, row) {
             return Err(Refusal::UnformedRow);
         }
-        matched = matched | row_codes(n, row);
+        matched |= row_codes(n, row);
     }
     Ok(matched)
 }

@@ -32,7 +32,8 @@ pub fn limit_with(cover: &Option<Cover>, limit: u64) -> u64
     }
 }
 
-// Rows, the columns that they cover, and what they weigh.
+// Rows, the columns that they cover, and what they weigh. That these are counted is asked of callers, with the matrix: as a ghost field it was tried, and is
+// refused, since `Counted` gives a row for each column, and so is no proposition.
 #[derive(Clone, Copy)]
 struct Gathered {
     rows: rows::Set,
@@ -62,7 +63,7 @@ impl Gathered {
         ensures counted { Counted matrix.entry.words.now matrix.entry.weights.now self.new }
     {
         self.rows.insert(i);
-        self.columns = self.columns | matrix.columns_of(i);
+        self.columns |= matrix.columns_of(i);
         self.weight += matrix.weight(i);
     }
 

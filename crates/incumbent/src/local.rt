@@ -1,7 +1,7 @@
 // A local search for a light cover. Rows enter and leave a selection, and a column that stays open for long gets a higher price. The score of a row is what
 // its entering or leaving is worth: the prices of the columns that are then covered and were not, less those of the columns that were covered and then are
 // not. A heuristic: nothing is promised of the rows that it picks.
-ghost use Rattle.std.specs.Prelude.{◌<◌, ◌≤◌, IfSome};
+ghost use Rattle.std.specs.Prelude.{◌<◌, IfSome};
 ghost use Rattle.matrix.specs.Matrix.{row_count};
 ghost use Rattle.matrix.specs.Sets.{column_limit, row_limit};
 ghost use Rattle.incumbent.specs.Incumbent.{Incumbent};
@@ -129,9 +129,9 @@ impl Workspace {
             self.rescore(indexed, c, i, count, price);
         }
         if self.columns[c].count == 0 {
-            self.open = self.open | columns::Set::only(c);
+            self.open |= columns::Set::only(c);
         } else {
-            self.open = self.open - columns::Set::only(c);
+            self.open -= columns::Set::only(c);
         }
     }
 
@@ -141,7 +141,7 @@ impl Workspace {
     {
         let matrix = indexed.problem.matrix;
         let own = self.rows[i].score;
-        for c in matrix.columns_of(i) & indexed.problem.undecided {
+        for c in indexed.problem.columns_of(i) {
             self.recount(indexed, c, i);
             self.candidates = self.candidates.union(indexed.rows_at(c));
         }
@@ -166,11 +166,7 @@ impl Workspace {
     {
         let a = self.rows[i];
         let b = self.rows[j];
-        if a.score == b.score {
-            a.stamp < b.stamp
-        } else {
-            b.score < a.score
-        }
+        (b.score, a.stamp) < (a.score, b.stamp)
     }
 
     // The best row to leave leaves.
@@ -249,6 +245,7 @@ impl Workspace {
     fn start(&mut self, indexed: &Indexed) {
         let problem = &indexed.problem;
         self.raise(indexed, problem.undecided);
+        // No limit: a cover of any weight will do to start from.
         if let Some(cover) = greedy::cover(problem, u64::MAX) {
             for i in cover.rows.iter(problem.matrix.rows()) {
                 self.flip(indexed, i);

@@ -169,8 +169,8 @@ impl Set {
     }
 }
 
-// The rows of a set before `end`, ascending: what is left of a word, whose first row is `base`, and the words behind it. The word is a number here, since
-// no adapter of an iterator is proved over a struct that holds a struct with a model beside a reference.
+// The rows of a set before `end`, ascending: what is left of a word, whose first row is `base`, and the words behind it. The word is a number: a `Word` was
+// tried, and the proof of no adapter closes over an iterator that holds a struct with a model beside a reference.
 #[derive(Clone, Copy)]
 pub struct Rows<'a> {
     word: u64,

@@ -15,15 +15,15 @@ impl ByColumn {
     // The live rows noted at their undecided columns.
     pub fn of(problem: &Subproblem) -> ByColumn {
         let mut sets = [rows::Set::none(); columns::LIMIT];
-        for i in problem.live.iter(problem.matrix.rows()) {
-            for c in problem.matrix.columns_of(i) & problem.undecided {
+        for i in problem.rows() {
+            for c in problem.columns_of(i) {
                 sets[c].insert(i);
             }
         }
         ByColumn { sets }
     }
 
-    // The rows noted at the column c.
+    // The rows noted at the column c, which is asked to be one of a set's.
     pub fn at(&self, c: usize) -> &rows::Set
         requires { c < column_limit }
     {

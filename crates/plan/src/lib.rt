@@ -52,7 +52,10 @@ fn lightest(rows: &[ChartRow], columns: columns::Set) -> Cover
         words.push(row.word);
         weights.push(ROW_WEIGHT + u32::from(row.literals));
     }
-    let matrix = Matrix::new(words.as_slice(), weights.as_slice());
+    let matrix = Matrix {
+        words: words.as_slice(),
+        weights: weights.as_slice(),
+    };
     search::minimum_cover(matrix, columns).cover.unwrap()
 }
 

@@ -1,6 +1,6 @@
 // Row dominance: a row is dropped for another that covers all its undecided columns and weighs no more. Of equal rows one stays, and a row that covers no
 // undecided column is dropped outright.
-ghost use Rattle.std.specs.Prelude.{◌≡◌, true, ℕ, ◌<◌};
+ghost use Rattle.std.specs.Prelude.{◌≡◌, true, ◌<◌};
 ghost use Rattle.matrix.specs.Matrix.{row_count};
 ghost use Rattle.reduction.specs.Reduction.{Keeps};
 ghost use Rattle.reduction.specs.Steps.{Dominates, Droppable};
@@ -13,11 +13,7 @@ fn dominates(problem: &Subproblem, i: usize, j: usize) -> bool
     requires { (i < row_count problem.now.matrix.words.now) × (j < row_count problem.now.matrix.words.now) }
     ensures { let p = problem.now in result ≡ true → Dominates p.matrix.words.now p.matrix.weights.now p.live.now p.undecided i j }
 {
-    let set = problem.matrix.columns_of(i) & problem.undecided;
-    set.is_subset(problem.matrix.columns_of(j))
-        && j != i
-        && problem.matrix.weight(j) <= problem.matrix.weight(i)
-        && problem.live.contains(j)
+    j != i && problem.stands_in(problem.columns_of(i), i, j)
 }
 
 // Whether the row i can be dropped: it covers no undecided column, or one of the rows that are noted at its first one dominates it. The rows by column stay
@@ -27,7 +23,7 @@ fn is_droppable(problem: &Subproblem, by_column: &ByColumn, i: usize) -> bool
     requires { i < row_count problem.now.matrix.words.now }
     ensures { let p = problem.now in result ≡ true → Droppable p.matrix.words.now p.matrix.weights.now p.live.now p.undecided i }
 {
-    match (problem.matrix.columns_of(i) & problem.undecided).first() {
+    match problem.columns_of(i).first() {
         None => true,
         Some(c) => by_column
             .at(c)

@@ -13,11 +13,12 @@ ghost use Rattle.search.specs.Steps.{BranchesBelow, Found, IsSmall, Lighter, Tak
 
 use incumbent::{Cover, greedy, limit_with};
 use matrix::{Matrix, Subproblem, columns, rows};
+use reduction::Remaining;
 
 pub mod branching;
 
 // The first limit: more than all rows can weigh.
-const FIRST_LIMIT: u64 = 1 << 42;
+pub const FIRST_LIMIT: u64 = 1 << 42;
 
 // What a search answers: the lightest cover, if there is one, and what it took: the nodes visited and the depth of the calls.
 #[derive(Clone, Copy)]
@@ -43,14 +44,14 @@ fn taking(found: Solution, r: usize, w: u64) -> Solution
 }
 
 // The rows that a reduction took, with the answer for what it left: one more node, and one call deeper.
-fn with_taken(taken: &rows::Set, cost: u64, found: Solution) -> Solution
-    requires { (cost < cost_limit) × IsSmall found.cover }
-    ensures { WithTaken taken.now cost found.cover result.cover }
+fn with_taken(rest: &Remaining, found: Solution) -> Solution
+    requires { (rest.now.cost < cost_limit) × IsSmall found.cover }
+    ensures { WithTaken rest.now.taken rest.now.cost found.cover result.cover }
 {
     Solution {
-        cover: found.cover.map(|rest| Cover {
-            weight: cost + rest.weight,
-            rows: taken.union(&rest.rows),
+        cover: found.cover.map(|cover| Cover {
+            weight: rest.cost + cover.weight,
+            rows: rest.taken.union(&cover.rows),
         }),
         nodes: found.nodes.wrapping_add(1),
         depth: found.depth.wrapping_add(1),
@@ -80,7 +81,8 @@ fn leaf(cover: Option<Cover>) -> Solution
 }
 
 // Leaves the live rows that a cover below the limit can have, and answers the one of these to branch on, or `None` where no cover is below the limit.
-// The parts of a `Subproblem` come one by one, since the rows are lent to be changed and it only reads them.
+// The parts of a `Subproblem` come one by one, since the rows are lent to be changed and it only reads them. It is not inlined, for the reason told at
+// `bound`: what it calls has arrays, which are not to lie on the stack of the calls on the way down.
 #[inline(never)]
 fn branch_point(
     matrix: Matrix,
@@ -123,13 +125,8 @@ fn reduce(problem: &Subproblem, limit: u64) -> Solution
     match branch_point(problem.matrix, &mut rest.live, undecided, below) {
         None => leaf(None),
         Some(r) => {
-            let left = Subproblem {
-                live: &rest.live,
-                undecided,
-                ..*problem
-            };
-            let found = choose(&left, below, r);
-            with_taken(&rest.taken, rest.cost, found)
+            let found = choose(&rest.left(problem.matrix), below, r);
+            with_taken(&rest, found)
         }
     }
 }

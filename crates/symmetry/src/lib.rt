@@ -29,7 +29,7 @@ fn grown(indexed: &Indexed, exchange: &Exchange, found: &rows::Set) -> rows::Set
         return *found;
     }
     let mut more = *found;
-    for i in problem.live.iter(problem.matrix.rows()) {
+    for i in problem.rows() {
         let Some(j) = images::image(indexed, exchange, i) else {
             return *found;
         };
