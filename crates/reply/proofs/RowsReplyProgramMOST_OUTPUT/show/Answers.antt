@@ -7,7 +7,7 @@ use Rattle.reply.proofs.RowsReplyProgramMOST_OUTPUT.show.Goals as goal
 pub returns-in_err-totals-clause-refusal : goal.returns-in_err-totals-clause-refusal
 returns-in_err-totals-clause-refusal c =
     let e = err_from_is_err_and c.from_residual.result c.from_residual.ensures.1 in
-    rw (e.1, e.2) (refuses c.args.n c.args.cells.now _ _ _ _ (lit≤ tt) (lit≤ tt) _ c.in_err-totals.ensures)
+    rw (e.1, e.2) (refuses c.args.text.width c.args.text.cells.now _ _ _ _ (lit≤ tt) (lit≤ tt) _ c.in_err-totals.ensures)
 
 pub returns-clause-text : goal.returns-clause-text
-returns-clause-text c = shows c.args.n c.args.cells.now _ _ _ _ (lit≤ tt) (lit≤ tt) _ c.in_ok-totals.ensures c.list.ensures
+returns-clause-text c = shows c.args.text.width c.args.text.cells.now _ _ _ _ (lit≤ tt) (lit≤ tt) _ c.in_ok-totals.ensures c.list.ensures

@@ -7,10 +7,10 @@ use Rattle.sums_reply.proofs.SumsReplyProgramMOST_LINE.show.Goals as goal
 pub returns-in_err-totals-clause-refusal : goal.returns-in_err-totals-clause-refusal
 returns-in_err-totals-clause-refusal c =
     let e = err_from_is_err_and c.from_residual.result c.from_residual.ensures.1 in
-    rw (e.1, e.2) (refuses_keep_out c.args.n c.args.cells.now _ _ _ _ (lit≤ tt) (lit≤ tt) _ c.in_err-totals.ensures)
+    rw (e.1, e.2) (refuses_keep_out c.args.text.width c.args.text.cells.now _ _ _ _ (lit≤ tt) (lit≤ tt) _ c.in_err-totals.ensures)
 
 pub line-requires : goal.line-requires
-line-requires c = (lit< tt, line_room c.args.n c.args.cells.now _ _ _ _ (lit≤ tt) (lit≤ tt) _ c.in_ok-totals.ensures)
+line-requires c = (lit< tt, line_room c.args.text.width c.args.text.cells.now _ _ _ _ (lit≤ tt) (lit≤ tt) _ c.in_ok-totals.ensures)
 
 pub returns-clause-text : goal.returns-clause-text
-returns-clause-text c = shows_line c.args.n c.args.cells.now _ _ _ _ (lit≤ tt) (lit≤ tt) _ c.in_ok-totals.ensures c.line.ensures
+returns-clause-text c = shows_line c.args.text.width c.args.text.cells.now _ _ _ _ (lit≤ tt) (lit≤ tt) _ c.in_ok-totals.ensures c.line.ensures
