@@ -16,7 +16,7 @@ use spelling::MOST_CODES;
 use std::marker::Model;
 
 // One cell more than the widest table has.
-pub const MOST_CELLS: usize = MOST_CODES + 1;
+const MOST_CELLS: usize = MOST_CODES + 1;
 
 // What comes next in a text in form.
 #[derive(Clone, Copy)]
@@ -61,9 +61,7 @@ type Cells = ArrayVec<u8, MOST_CELLS>;
 fn keep(cells: &mut Cells, cell: u8)
     ensures { cells.new.items ≡ keep (cells.old.items ++ cell ∷ []) }
 {
-    if !cells.is_full() {
-        cells.push(cell);
-    }
+    let _ = cells.try_push(cell);
 }
 
 impl Next {

@@ -1,5 +1,6 @@
-// The printed lines. Each function writes behind what its text has already.
-ghost use Rattle.std.specs.Prelude.{◌≡◌, ◌∷◌, ◌++◌, ◌+◌, ◌<◌, ◌≤◌, length};
+// The printed lines. Each function writes behind what its text has already. Each pushes its parts, and there is no `Display`: `write!` answers a Result that each
+// contract would have to rule out, and the contracts give the bytes.
+ghost use Rattle.std.specs.Prelude.{◌≡◌, ◌++◌, ◌+◌, ◌<◌, ◌≤◌, length};
 ghost use Rattle.arrayvec.specs.ArrayString.{array_string_len};
 ghost use Rattle.cube.specs.Words.{digit_of, rows_of};
 ghost use Rattle.cube.specs.Theorems.{bit_of_variable, Variable};
@@ -101,7 +102,7 @@ pub fn list(n: usize, rows: Rows, bits: usize) -> ArrayString<MOST_OUTPUT>
 {
     let mut out = ArrayString::new();
     lines(n, rows, &mut out);
-    totals(rows.values.len(), bits, &mut out);
+    totals(rows.len(), bits, &mut out);
     out
 }
 

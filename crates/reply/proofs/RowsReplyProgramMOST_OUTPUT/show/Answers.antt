@@ -7,4 +7,4 @@ pub returns-in_err-totals-clause-refusal : goal.returns-in_err-totals-clause-ref
 returns-in_err-totals-clause-refusal c = search (rules, refuses)
 
 pub returns-clause-text : goal.returns-clause-text
-returns-clause-text c = shows c.args.n c.args.cells.now _ _ _ _ (lit≤ tt) (lit≤ tt) _ c.in_ok-totals.ensures c.list.ensures
+returns-clause-text c = shows c.args.text.width c.args.text.cells.now _ _ _ _ (lit≤ tt) (lit≤ tt) _ c.in_ok-totals.ensures c.list.ensures

@@ -7,7 +7,7 @@ pub returns-in_err-totals-clause-refusal : goal.returns-in_err-totals-clause-ref
 returns-in_err-totals-clause-refusal c = search (rules, refuses_keep_out)
 
 pub line-requires : goal.line-requires
-line-requires c = (lit< tt, line_room c.args.n c.args.cells.now _ _ _ _ (lit≤ tt) (lit≤ tt) _ c.in_ok-totals.ensures)
+line-requires c = (lit< tt, line_room c.args.text.width c.args.text.cells.now _ _ _ _ (lit≤ tt) (lit≤ tt) _ c.in_ok-totals.ensures)
 
 pub returns-clause-text : goal.returns-clause-text
-returns-clause-text c = shows_line c.args.n c.args.cells.now _ _ _ _ (lit≤ tt) (lit≤ tt) _ c.in_ok-totals.ensures c.line.ensures
+returns-clause-text c = shows_line c.args.text.width c.args.text.cells.now _ _ _ _ (lit≤ tt) (lit≤ tt) _ c.in_ok-totals.ensures c.line.ensures
