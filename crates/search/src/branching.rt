@@ -50,6 +50,7 @@ fn columns_seen(problem: &Subproblem) -> [Column; columns::LIMIT] {
 }
 
 // The undecided column whose rows together cover the most columns for their number.
+// A `for`: `reduce` was tried, and the proof that what it gives is one of the columns does not close.
 fn densest_column(problem: &Subproblem) -> usize
     requires { (c : ℕ) × In problem.now.undecided c }
     ensures { ColumnOf problem.now.undecided result }
