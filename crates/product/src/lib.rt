@@ -31,7 +31,8 @@ fn literal<const N: usize>(k: usize, one: bool, out: &mut ArrayString<N>)
     }
 }
 
-// The last character of a sum, where this one would be before its next literal.
+// The last character of a sum, where this one would be before its next literal: `0` where that is the bracket, since then there is no literal. No flag stands
+// for that beside the character, which would say it twice.
 fn last(before: char) -> char
     ensures value { result ≡ last_character before }
     ensures ascii { result < 128 }
@@ -61,7 +62,7 @@ fn sums<const N: usize>(n: usize, rows: Rows, out: &mut ArrayString<N>)
     requires { array_string_len out.old + length (excluding_text n (rows_of rows.values.now rows.cares.now)) ≤ N }
     ensures { out.new.bytes ≡ out.old.bytes ++ excluding_text n (rows_of rows.entry.values.now rows.entry.cares.now) }
 {
-    if rows.values.is_empty() {
+    if rows.is_empty() {
         out.push_str("1");
         return;
     }
