@@ -44,9 +44,9 @@ loop-value-preserved c =
           subst (λ (m : ℕ). (k : ℕ) → k < m → not (formed n (row_in r.values.now r.cares.now k)) ≡ false) more
           (below_more _ _ l.invariant.formed (ap not (ap (formed n) (sym row) ∙ sym c.is_formed.ensures ∙ c.if-not-is_formed.false)));
       codes =
-          subst (λ (m : ℕ). HoldsExactly n (by_first (matches r.values.now r.cares.now) m) c.bitor-matched.result) more
+          subst (λ (m : ℕ). HoldsExactly n (by_first (matches r.values.now r.cares.now) m) c.bitor_assign.new.self) more
           (one_row_more n (matches r.values.now r.cares.now) (length l.yielded) l.invariant.codes
-          (subst (λ (x : Row). HoldsExactly n (row_matches x) c.row_codes.result) row c.row_codes.ensures) c.bitor-matched.ensures);
+          (subst (λ (x : Row). HoldsExactly n (row_matches x) c.row_codes.result) row c.row_codes.ensures) c.bitor_assign.ensures.after);
     }
 
 pub returns : goal.returns
