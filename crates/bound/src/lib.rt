@@ -50,7 +50,8 @@ fn tighten_by<F: Fn(&Problem) -> Prices>(
 }
 
 // Drops the live rows that no cover below the limit can have, and returns a lower bound: by an ascent from zero, and by one from a fair share unless the first
-// is enough. That the limit is one of costs is asked, and no type says it: the limit is what is left of another, and each level of a search would make one anew.
+// is enough. That the limit is below `cost_limit` is asked, and no type says it: a limit is what is left of another, and each level of a search would make one
+// anew.
 pub fn tighten(matrix: Matrix, live: &mut rows::Set, undecided: columns::Set, limit: u64) -> u64
     requires { limit < cost_limit }
     ensures { Bounds matrix.entry.words.now matrix.entry.weights.now live.old undecided limit result live.new }

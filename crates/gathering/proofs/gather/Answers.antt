@@ -18,7 +18,7 @@ returns-then-not-is_formed c =
 pub loop-row-preserved : goal.loop-row-preserved
 loop-row-preserved c =
     let yes : formed c.args.n c.in-Some.row ≡ true = sym c.is_formed.ensures ∙ search (rules, tests) in
-    row_joined _ _ c.loop-row.invariant c.in-Some.ensures.steps yes c.row_codes.ensures c.bitor-matched.ensures
+    row_joined _ _ c.loop-row.invariant c.in-Some.ensures.steps yes c.row_codes.ensures c.bitor_assign.ensures.after
 
 pub returns : goal.returns
 returns c = none_left _ _ c.loop-row.invariant c.in-None.ensures.steps.0
