@@ -67,7 +67,8 @@ fn cube_kind(table: Table, kinds: &[Kind], q: usize) -> Kind
     }
 }
 
-// The kinds of the cubes of a table, each made from those before it.
+// The kinds of the cubes of a table, each made from those before it. An `ArrayVec` is pushed to in a loop, here and in the crates above: its `extend` and
+// `collect` answer a `Result`, an error where an item finds the list full, which each function would have to rule out; `push` asks for room instead.
 fn cube_kinds(table: Table) -> ArrayVec<Kind, MOST_CUBES>
     ensures { KindsOf table.entry.width table.entry.cells.now result.items (3 ^ table.entry.width) }
 {
