@@ -55,7 +55,7 @@ pub fn wanted(table: Table) -> columns::Set
     row_columns(table, Row { value: 0, care: 0 })
 }
 
-// The wanted codes that cube q matches.
+// The wanted codes that cube q matches. That q is a cube of the table is asked, since a number does not know of which width it is a cube.
 pub fn cube_columns(table: Table, q: usize) -> columns::Set
     requires { q < 3 ^ table.width }
     ensures { result ≡ columns_of table.entry.width table.entry.cells.now q }

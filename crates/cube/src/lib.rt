@@ -15,7 +15,7 @@ pub struct Row {
     pub care: u8,
 }
 
-// Why a call refuses what it is given, with the numbers in order.
+// Why a call refuses what it is given, with the numbers in order. It has no `Display`: a number is all that the papers print, and `number` gives it.
 #[derive(Clone, Copy, PartialEq, Eq)]
 pub enum Refusal {
     // The width is not 1 to 6.

@@ -12,17 +12,19 @@ ghost use Rattle.numbers.specs.Lent.{Puts};
 ghost use Rattle.cube.specs.Words.{serving_prime, serving_primes_of};
 ghost use Rattle.cube.specs.Calls.{widest, Listed};
 ghost use Rattle.tables.specs.Listing.{primes_refuses};
-ghost use Rattle.primes.specs.Steps.{kind, kind_of, Kinds, Joins, MarksBelow, is_marked, expands_by, serving_prime_by};
+ghost use Rattle.primes.specs.Steps.{kind, kind_of, KindsOf, Joins, MarksBelow, is_marked, expands_by, serving_prime_by};
 
+use arrayvec::ArrayVec;
 use cells::Split;
 use cube::Refusal;
 use spelling::{Cube, MOST_CUBES};
 use tables::Table;
 
 // What is noted of a cube: of two kinds of implicants the greater one tells whether one of them serves.
-#[derive(Clone, Copy, PartialEq, Eq, PartialOrd, Ord)]
+#[derive(Clone, Copy, Default, PartialEq, Eq, PartialOrd, Ord)]
 enum Kind {
     // It is no implicant.
+    #[default]
     NoImplicant,
     // It is an implicant that matches free codes alone.
     Idle,
@@ -52,11 +54,10 @@ fn joined_kind(low: Kind, high: Kind) -> Kind
     }
 }
 
-// The kind of cube q: from its cell, or from the kinds of its halves.
+// The kind of cube q, with the kinds of the cubes before it: from its cell, or from the kinds of its halves.
 fn cube_kind(table: Table, kinds: &[Kind], q: usize) -> Kind
     requires cube { q < 3 ^ table.width }
-    requires enough { 3 ^ table.width ≤ length kinds.now }
-    requires lower { Kinds table.width table.cells.now kinds.now q }
+    requires lower { KindsOf table.width table.cells.now kinds.now q }
     ensures { result ≡ kind_of table.entry.width table.entry.cells.now q }
 {
     let width = table.width;
@@ -66,14 +67,17 @@ fn cube_kind(table: Table, kinds: &[Kind], q: usize) -> Kind
     }
 }
 
-// Notes the kinds of the cubes of a table. A cube's kind is made from kinds noted before it, so each is written by its place.
-fn note_kinds(table: Table, kinds: &mut [Kind])
-    requires { 3 ^ table.width ≤ length kinds.old }
-    ensures { Kinds table.entry.width table.entry.cells.now kinds.new (3 ^ table.entry.width) }
+// The kinds of the cubes of a table, each made from those before it. An `ArrayVec` is pushed to in a loop, here and in the crates above: its `extend` and
+// `collect` answer a `Result`, an error where an item finds the list full, which each function would have to rule out; `push` asks for room instead.
+fn cube_kinds(table: Table) -> ArrayVec<Kind, MOST_CUBES>
+    ensures { KindsOf table.entry.width table.entry.cells.now result.items (3 ^ table.entry.width) }
 {
+    let mut kinds = ArrayVec::new();
     for q in 0..table.cubes() {
-        kinds[q] = cube_kind(table, kinds, q);
+        let kind = cube_kind(table, kinds.as_slice(), q);
+        kinds.push(kind);
     }
+    kinds
 }
 
 // The kinds of the cubes of `width` digits.
@@ -122,11 +126,10 @@ pub fn mark_serving_primes(table: Table, marks: &mut [bool])
     ensures { MarksBelow (3 ^ table.entry.width) (serving_prime table.entry.width table.entry.cells.now)
         marks.old marks.new }
 {
-    let mut kinds = [Kind::NoImplicant; MOST_CUBES];
-    note_kinds(table, &mut kinds);
+    let kinds = cube_kinds(table);
     let kinds = CubeKinds {
         width: table.width,
-        kinds: &kinds,
+        kinds: kinds.as_slice(),
     };
     kinds.mark_maximal(marks);
 }

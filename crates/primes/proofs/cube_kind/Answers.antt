@@ -31,4 +31,4 @@ pub returns-in-Code : goal.returns-in-Code
 returns-in-Code c = of_code _ c.args.table.cells.now _ _ _ (c.in-Code.ensures.1 ∙ ap (λ (i : ℕ). i ∷ []) (sym c.from.ensures)) c.code_kind.ensures
 
 pub returns-in-Halves : goal.returns-in-Halves
-returns-in-Halves c = of_halves _ c.args.table.cells.now _ _ c.args.kinds.now c.requires.lower _ _ c.in-Halves.ensures c.joined_kind.ensures
+returns-in-Halves c = of_halves _ c.args.table.cells.now _ _ c.args.kinds.now c.requires.lower.right _ _ c.in-Halves.ensures c.joined_kind.ensures
