@@ -29,7 +29,7 @@ pub fn is_formed(n: usize, row: Row) -> bool
 }
 
 // A list of rows in two arrays: row i is place i of the values with place i of the cares. Not a slice of `Row`s, since C lends two arrays; and no width stands in
-// it, since C gives Check and Write the width apart.
+// it, since `new` makes a list without one, and Check tests the form of a row while it gathers.
 #[derive(Clone, Copy)]
 pub struct Rows<'a> {
     pub values: &'a [u8],

@@ -1,6 +1,6 @@
 // The printed lines. Each function writes behind what its text has already. Each pushes its parts, and there is no `Display`: `write!` answers a Result that each
 // contract would have to rule out, and the contracts give the bytes.
-ghost use Rattle.std.specs.Prelude.{◌≡◌, ◌++◌, ◌+◌, ◌<◌, ◌≤◌, length};
+ghost use Rattle.std.specs.Prelude.{◌≡◌, ◌++◌, ◌+◌, ◌<◌, ◌≤◌, eqb, length};
 ghost use Rattle.arrayvec.specs.ArrayString.{array_string_len};
 ghost use Rattle.cube.specs.Words.{digit_of, rows_of};
 ghost use Rattle.cube.specs.Theorems.{bit_of_variable, Variable};
@@ -28,11 +28,11 @@ pub fn number<const N: usize>(x: usize, out: &mut ArrayString<N>)
 
 // The bit of variable xk in a value or a care. Behind its own bits nothing of a byte is left.
 #[tactic(auto, using(crate::proofs::Bytes::byte_bit))]
-fn bit(n: usize, k: usize, byte: u8) -> usize
+fn bit(n: usize, k: usize, byte: u8) -> bool
     requires { Variable n k }
-    ensures { result ≡ bit_of_variable n k byte }
+    ensures { result ≡ eqb (bit_of_variable n k byte) 1 }
 {
-    usize::from(byte) >> (n - k).min(BITS) & 1
+    usize::from(byte) >> (n - k).min(BITS) & 1 == 1
 }
 
 // The bit of variable xk that a row tests, if it tests one.
@@ -40,10 +40,10 @@ pub fn tested(n: usize, k: usize, row: Row) -> Option<bool>
     requires { Variable n k }
     ensures { digit_number result ≡ digit_of (bit_of_variable n k row.value) (bit_of_variable n k row.care) }
 {
-    if bit(n, k, row.care) == 0 {
+    if !bit(n, k, row.care) {
         return None;
     }
-    Some(bit(n, k, row.value) == 1)
+    Some(bit(n, k, row.value))
 }
 
 // The character of variable xk in the line of a row.

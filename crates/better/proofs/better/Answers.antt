@@ -2,7 +2,7 @@
 use Rattle.std.proofs.Common.{rules, ◌≡◌, true, false, sym}
 use Rattle.keep_out.proofs.Theorems.{plans_exchanged}
 use Rattle.better.specs.Better.{is_better}
-use Rattle.better.proofs.Endings.{stands, better_refused, list_drafted, excluding_drafted, fits, keep_out_done, ordinary_done}
+use Rattle.better.proofs.Endings.{stands, better_refused, list_drafted, fits, keep_out_done, ordinary_done}
 use Rattle.better.proofs.better.Goals as goal
 
 pub returns-in_err-accept : goal.returns-in_err-accept

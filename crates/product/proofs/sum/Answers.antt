@@ -11,7 +11,7 @@ use Rattle.product.specs.Steps.{literal_of, rest_text, last_character}
 use Rattle.product.proofs.Writing.{Left, all_left, none_tested, one_tested}
 use Rattle.product.proofs.sum.Given.{Over}
 use Rattle.product.proofs.sum.Goals as goal
-use Rattle.product.proofs.sum.Goals.{Left-loop-k, else-loop-k-test, then-loop-k-test+else-k-n, in-Some, in_default}
+use Rattle.product.proofs.sum.Goals.{Joined-tested, Left-loop-k, else-loop-k-test, then-loop-k-test+else-k-n, in-Some, in_default}
 
 module _ (n : ℕ) (r : Row) (all : List ℕ) where
   abbrev From : ℕ → ℕ → List ℕ → Type 0
@@ -63,6 +63,22 @@ module _ (n : ℕ) (r : Row) (all : List ℕ) where
 abbrev whole : ℕ → Row → List ℕ → List ℕ
 whole n r old = old ++ sum_text (row_sum n r)
 
+-- behind a turn the literals of the variables after xk are left
+turned : (g : Over) (c : Joined-tested g) → From c.args.n c.args.row (whole c.args.n c.args.row c.args.out.now.bytes) (c.loop-k.k + 1) c.match-tested.before c.match-tested.out.bytes
+turned g c =
+    let n = c.args.n in
+    let r : Row = c.args.row in
+    let k = c.loop-k in
+    let all : List ℕ = whole n r c.args.out.now.bytes in
+    elim c.match-tested.branch [
+      | in-Some w ↦
+          same n r all (k.k + 1) w.before-is (ap (λ (o : ArrayString). o.bytes) w.out-is)
+          (more n r all k.k _ _ k.invariant (omega arith) _ c.tested.ensures _ w.in-Some.is (w.push.ensures.ascii k.invariant.1) w.literal.ensures)
+      | in_default w ↦
+          same n r all (k.k + 1) w.before-is (ap (λ (o : ArrayString). o.bytes) w.out-is)
+          (untested n r all k.k _ _ k.invariant (omega arith) _ c.tested.ensures w.in_default.not-Some)
+    ]
+
 -- behind the last turn no literal is left
 ended : (g : Over) (c : Left-loop-k g) → Ends c.args.n c.args.row (whole c.args.n c.args.row c.args.out.now.bytes) c.loop-k-test.before c.loop-k-test.out.bytes
 ended g c =
@@ -75,14 +91,7 @@ ended g c =
       | then-loop-k-test+else-k-n w ↦
           ends n r all (k.k + 1) _ _ (omega arith)
           (same n r all (k.k + 1) w.before-is (ap (λ (o : ArrayString). o.bytes) w.out-is)
-          (elim w.match-tested.branch [
-            | in-Some v ↦
-                same n r all (k.k + 1) v.before-is (ap (λ (o : ArrayString). o.bytes) v.out-is)
-                (more n r all k.k _ _ k.invariant (omega arith) _ w.tested.ensures _ v.in-Some.is (v.push.ensures.ascii k.invariant.1) v.literal.ensures)
-            | in_default v ↦
-                same n r all (k.k + 1) v.before-is (ap (λ (o : ArrayString). o.bytes) v.out-is)
-                (untested n r all k.k _ _ k.invariant (omega arith) _ w.tested.ensures v.in_default.not-Some)
-          ]))
+          (turned g (record { before = record { before = record { before = c.before; loop-k-test = w.loop-k-test }; tested = w.tested }; match-tested = w.match-tested })))
     ]
 
 pub loop-k-init : goal.loop-k-init
@@ -119,19 +128,7 @@ literal-requires g c =
     )
 
 pub loop-k-preserved : goal.loop-k-preserved
-loop-k-preserved g c =
-    let n = c.args.n in
-    let r : Row = c.args.row in
-    let k = c.loop-k in
-    let all : List ℕ = whole n r c.args.out.now.bytes in
-    elim c.match-tested.branch [
-      | in-Some w ↦
-          same n r all (k.k + 1) w.before-is (ap (λ (o : ArrayString). o.bytes) w.out-is)
-          (more n r all k.k _ _ k.invariant (omega arith) _ c.tested.ensures _ w.in-Some.is (w.push.ensures.ascii k.invariant.1) w.literal.ensures)
-      | in_default w ↦
-          same n r all (k.k + 1) w.before-is (ap (λ (o : ArrayString). o.bytes) w.out-is)
-          (untested n r all k.k _ _ k.invariant (omega arith) _ c.tested.ensures w.in_default.not-Some)
-    ]
+loop-k-preserved g c = turned g c.before
 
 pub push-requires-2 : goal.push-requires-2
 push-requires-2 g c =
