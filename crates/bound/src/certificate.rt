@@ -121,7 +121,7 @@ impl<'a, 'b> DualSolution<'a, 'b> {
 }
 
 // What prices for the columns show: nothing, unless they are a certificate. Drops the live rows that no cover below the limit can have, and returns a lower bound.
-// The parts of a `Subproblem` come one by one, as in `crate::tighten_by`.
+// The parts of a `Subproblem` come one by one, for the reason told at `crate::tighten_by`.
 pub fn certified(
     matrix: Matrix,
     live: &mut rows::Set,

@@ -116,10 +116,8 @@ impl Word {
 
     // The first bit.
     #[inline]
-    #[tactic(auto, using(crate::proofs::Bits::bits_within))]
     pub fn first(self) -> Option<usize>
-        ensures first { NextIfAny (has_bit self) 0 word_bits result }
-        ensures within { (b : ℕ) → has_bit self b ≡ true → b < word_bits }
+        ensures { NextIfAny (has_bit self) 0 word_bits result }
     {
         if self.0 == 0 {
             return None;
