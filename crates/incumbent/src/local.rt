@@ -91,7 +91,7 @@ impl Workspace {
     fn add(&mut self, indexed: &Indexed, c: usize, amount: f32)
         requires { c < column_limit }
     {
-        for i in indexed.rows_at(c).iter(indexed.problem.matrix.rows()) {
+        for i in indexed.rows_of(c) {
             self.rows[i].score += amount;
         }
     }
@@ -107,8 +107,7 @@ impl Workspace {
         }
         if n == 1 {
             let other = indexed
-                .rows_at(c)
-                .iter(indexed.problem.matrix.rows())
+                .rows_of(c)
                 .find(|&j| j != i && self.inside.contains(j));
             if let Some(j) = other {
                 self.rows[j].score += price;

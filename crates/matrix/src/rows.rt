@@ -109,7 +109,7 @@ impl Set {
         }
     }
 
-    // The rows that the other set lacks. A search that branches on orbits takes one out of the live rows by it.
+    // The rows that the other set lacks. No call uses it: it is what takes a set of rows, an orbit say, out of the live ones.
     pub fn difference(&self, other: &Set) -> Set
         ensures { (j : ℕ) → member result j ≡ (member self.now j && not (member other.now j)) }
     {

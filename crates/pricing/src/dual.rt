@@ -52,7 +52,7 @@ impl<'a> Problem<'a> {
     {
         let problem = &self.indexed.problem;
         let mut near = columns::NONE;
-        for i in self.indexed.rows_at(c).iter(problem.matrix.rows()) {
+        for i in self.indexed.rows_of(c) {
             near |= problem.columns_of(i);
         }
         near
@@ -109,7 +109,7 @@ impl<'a> Ascent<'a> {
     {
         let indexed = &self.problem.indexed;
         let mut least = u32::MAX;
-        for i in indexed.rows_at(c).iter(indexed.problem.matrix.rows()) {
+        for i in indexed.rows_of(c) {
             least = least.min(self.slacks[i]);
             if least == 0 {
                 return 0;
@@ -128,7 +128,7 @@ impl<'a> Ascent<'a> {
         }
         self.prices[c] = price;
         let indexed = &self.problem.indexed;
-        for i in indexed.rows_at(c).iter(indexed.problem.matrix.rows()) {
+        for i in indexed.rows_of(c) {
             self.slacks[i] = self.slacks[i].wrapping_add(amount);
         }
     }
