@@ -22,7 +22,7 @@ fn pass(matrix: Matrix, state: &mut Remaining)
     ensures { Onward matrix.entry.words.now matrix.entry.weights.now state.old state.new }
 {
     state.undecided = column_dominance::drop_columns(&state.left(matrix));
-    row_dominance::drop_rows(matrix, &mut state.live, state.undecided);
+    state.live = row_dominance::drop_rows(&state.left(matrix));
     forced::take_forced(matrix, state);
 }
 

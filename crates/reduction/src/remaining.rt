@@ -7,8 +7,8 @@ ghost use Rattle.matrix.specs.Matrix.{row_count, weight_limit};
 use matrix::{Matrix, Subproblem, columns, rows};
 
 // What is left of a covering problem: the live rows and the undecided columns, with the rows taken and what those weigh. What they weigh, and `weight_limit`
-// for each live row, are together at most `row_limit * weight_limit`. The matrix is handed to the methods: it is the same at every level of a search, whose
-// calls would each have it on the stack once more.
+// for each live row, are together at most `row_limit * weight_limit`. The matrix is handed to the methods: it is that of the whole
+// search, and no part of what is left.
 #[derive(Clone, Copy)]
 pub struct Remaining {
     pub live: rows::Set,

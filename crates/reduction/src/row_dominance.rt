@@ -6,7 +6,7 @@ ghost use Rattle.reduction.specs.Reduction.{Keeps};
 ghost use Rattle.reduction.specs.Steps.{Dominates, Droppable};
 
 use matrix::transposed::ByColumn;
-use matrix::{Matrix, Subproblem, columns, rows};
+use matrix::{Subproblem, rows};
 
 // Whether the row j is another live row that covers the undecided columns of i and weighs no more.
 fn dominates(problem: &Subproblem, i: usize, j: usize) -> bool
@@ -32,24 +32,20 @@ fn is_droppable(problem: &Subproblem, by_column: &ByColumn, i: usize) -> bool
     }
 }
 
-// Drops each live row that can be dropped. The parts of a `Subproblem` come one by one, since the rows are lent to be changed and it only reads them.
-pub fn drop_rows(matrix: Matrix, live: &mut rows::Set, undecided: columns::Set)
-    ensures { Keeps matrix.entry.words.now matrix.entry.weights.now live.old undecided live.new undecided }
+// The live rows without those that can be dropped, one after the other.
+pub fn drop_rows(problem: &Subproblem) -> rows::Set
+    ensures { let p = problem.now in Keeps p.matrix.words.now p.matrix.weights.now p.live.now p.undecided result p.undecided }
 {
-    let all = *live;
-    let by_column = ByColumn::of(&Subproblem {
-        matrix,
-        live: &all,
-        undecided,
-    });
-    for i in all.iter(matrix.rows()) {
-        let problem = Subproblem {
-            matrix,
-            live,
-            undecided,
+    let by_column = ByColumn::of(problem);
+    let mut live = *problem.live;
+    for i in problem.rows() {
+        let left = Subproblem {
+            live: &live,
+            ..*problem
         };
-        if is_droppable(&problem, &by_column, i) {
+        if is_droppable(&left, &by_column, i) {
             live.remove(i);
         }
     }
+    live
 }
