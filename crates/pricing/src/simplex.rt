@@ -89,6 +89,7 @@ impl Default for Variable {
     }
 }
 
+// A function for each kind, and not one of the meaning, which would ask for the facts of both ghost fields.
 impl Variable {
     // The price of a row.
     fn fee() -> Variable {
@@ -175,7 +176,7 @@ fn right_side(matrix: Matrix, i: usize) -> f32
     requires { i < row_count matrix.words.now }
 {
     let part = (i * 7 % 16) as u16;
-    nearest_u32_to_f32(matrix.weight(i) as u32) - f32::from(part) * SPREAD
+    nearest_u32_to_f32(matrix.weights[i]) - f32::from(part) * SPREAD
 }
 
 // The place of the price of the undecided column c: behind those of the undecided columns below it.
@@ -217,18 +218,11 @@ fn load_rows(
 }
 
 // How many rows have an entry at the place j.
-// A `for`: `filter` with `count`, and `sum`, are slower.
 fn entries(lines: &[Line], j: usize) -> u16
     requires { (length lines.now ≤ most_rows) × (j < most_places) }
     ensures { result ≤ most_rows }
 {
-    let mut n = 0;
-    for line in lines {
-        if line[j] != 0.0 {
-            n += 1;
-        }
-    }
-    n
+    lines.iter().filter(|line| line[j] != 0.0).count() as u16
 }
 
 // The first whole number from 4 on that is no less than 4 times the square root of n.
@@ -252,7 +246,8 @@ fn at_least_zero(side: f32) -> f32 {
     if side < 0.0 { 0.0 } else { side }
 }
 
-// The lower of a ratio and that of a row with a right side and an entry, if the entry may be a pivot.
+// The lower of a ratio and that of a row with a right side and an entry, if the entry may be a pivot. They are compared by a product, so that only a lower one
+// is divided: `min` would divide each.
 fn lower_ratio(ratio: f32, side: f32, entry: f32) -> f32 {
     if LEAST_PIVOT < entry {
         let loose = at_least_zero(side) + TOLERANCE;
@@ -351,7 +346,8 @@ impl<'a> Tableau<'a> {
     fn least_ratio(&self, q: usize) -> f32
         requires { q < array_vec_len self.now.places }
     {
-        // No row limits the price so far. Not infinity, which would take a right side above 10^28 for a limit too.
+        // No row limits the price so far. Not infinity, which would take a right side above 10^28 for a limit too. An `Option` would take the first row for
+        // a limit in every case, and the prices are to stay what they were.
         let mut ratio = 1.0e30;
         let side = self.places.len();
         for line in &self.cells[..self.rows.len()] {
