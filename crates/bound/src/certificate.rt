@@ -61,6 +61,7 @@ fn weight_range(problem: &Subproblem) -> Option<Range>
         least = least.min(weight);
         most = most.max(weight);
     }
+    // Without a row the least is above the largest: the least of no weight is above any.
     if least <= most {
         Some(Range { least, most })
     } else {
@@ -121,7 +122,7 @@ impl<'a, 'b> DualSolution<'a, 'b> {
 }
 
 // What prices for the columns show: nothing, unless they are a certificate. Drops the live rows that no cover below the limit can have, and returns a lower bound.
-// The parts of a `Subproblem` come one by one, as in `crate::tighten_by`.
+// The parts of a `Subproblem` come one by one, for the reason told at `crate::tighten_by`.
 pub fn certified(
     matrix: Matrix,
     live: &mut rows::Set,

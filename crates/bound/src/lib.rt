@@ -17,7 +17,7 @@ pub mod certificate;
 
 // Drops the live rows that no cover below the limit can have, as prices for the columns show, and returns a lower bound. It is not inlined: its arrays are not to
 // lie on the stack of whoever asks for bounds on the way down.
-// The parts of a `Subproblem` come one by one, since the rows are lent to be changed and it only reads them.
+// The parts of a `Subproblem` come one by one: the rows are lent to be changed. Given back instead, they would come beside the bound in a struct of their own.
 #[inline(never)]
 fn tighten_by<F: Fn(&Problem) -> Prices>(
     find: F,

@@ -21,7 +21,8 @@ impl Column {
         self.near |= row;
     }
 
-    // Whether the rows bring more columns in proportion than those of another column, with one row added to each.
+    // Whether the rows bring more columns in proportion than those of another column, with one row added to each. They are compared by
+    // products, as in `incumbent::greedy::cheaper`.
     fn is_denser(&self, other: &Column) -> bool {
         times(other.near.len(), self.rows) < times(self.near.len(), other.rows)
     }

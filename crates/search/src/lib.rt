@@ -81,8 +81,8 @@ fn leaf(cover: Option<Cover>) -> Solution
 }
 
 // Leaves the live rows that a cover below the limit can have, and answers the one of these to branch on, or `None` where no cover is below the limit.
-// The parts of a `Subproblem` come one by one, since the rows are lent to be changed and it only reads them. It is not inlined, for the reason told at
-// `bound`: what it calls has arrays, which are not to lie on the stack of the calls on the way down.
+// The parts of a `Subproblem` come one by one: the rows are lent to be changed. Given back instead, they would come beside the row in a struct of their own.
+// It is not inlined, for the reason told at `bound`: what it calls has arrays, which are not to lie on the stack of the calls on the way down.
 #[inline(never)]
 fn branch_point(
     matrix: Matrix,
