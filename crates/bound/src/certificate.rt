@@ -61,6 +61,7 @@ fn weight_range(problem: &Subproblem) -> Option<Range>
         least = least.min(weight);
         most = most.max(weight);
     }
+    // Without a row the least is above the largest: the least of no weight is above any.
     if least <= most {
         Some(Range { least, most })
     } else {

@@ -114,10 +114,13 @@ impl Word {
         Word(self.0 + (1 << b))
     }
 
-    // The first bit.
+    // The first bit. That all bits are within the word is promised with it: a law in its place was tried, and the proof does not close where a caller unwraps
+    // the first column of a set that has one.
     #[inline]
+    #[tactic(auto, using(crate::proofs::Bits::bits_within))]
     pub fn first(self) -> Option<usize>
-        ensures { NextIfAny (has_bit self) 0 word_bits result }
+        ensures first { NextIfAny (has_bit self) 0 word_bits result }
+        ensures within { (b : ℕ) → has_bit self b ≡ true → b < word_bits }
     {
         if self.0 == 0 {
             return None;

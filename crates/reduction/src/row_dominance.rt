@@ -18,7 +18,7 @@ fn dominates(problem: &Subproblem, i: usize, j: usize) -> bool
 
 // Whether the row i can be dropped: it covers no undecided column, or one of the rows that are noted at its first one dominates it. The rows by column stay
 // as they were at first while the live rows get fewer, so they are no part of the sub-problem here.
-#[tactic(auto, using(numbers::proofs::Closures::asked, matrix::proofs::Bits::bits_within))]
+#[tactic(auto, using(numbers::proofs::Closures::asked))]
 fn is_droppable(problem: &Subproblem, by_column: &ByColumn, i: usize) -> bool
     requires { i < row_count problem.now.matrix.words.now }
     ensures { let p = problem.now in result ≡ true → Droppable p.matrix.words.now p.matrix.weights.now p.live.now p.undecided i }

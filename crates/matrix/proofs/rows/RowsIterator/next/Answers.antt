@@ -7,7 +7,6 @@ use Rattle.numbers.proofs.Flags.{clash}
 use Rattle.numbers.proofs.Loops.{progress}
 use Rattle.matrix.specs.Sets.{word_bits, has_bit}
 use Rattle.matrix.specs.Walks.{left_behind}
-use Rattle.matrix.proofs.Bits.{bits_within}
 use Rattle.matrix.proofs.Members.{left_none, left_end, left_next, left_before}
 use Rattle.matrix.proofs.Sets.{word_is, row_taken, none_left}
 use Rattle.matrix.proofs.rows.RowsIterator.next.Goals as goal
@@ -39,20 +38,20 @@ returns-in_err-b-clause-steps c =
     let b = c.loop-word-test.ensures.some refl in
     let has = ap (λ (w : ℕ). has_bit w b.0) (c.from-word.ensures ∙ sym c.from.ensures) ∙ b.1 in
     let e = c.in_err-b.ensures in
-    clash has (e.before b.0 (omega arith) (bits_within _ _ b.0 has refl (omega arith)))
+    clash has (e.first.before b.0 (omega arith) (e.within b.0 has))
 
 pub returns-then-b-saturating_sub-clause-steps : goal.returns-then-b-saturating_sub-clause-steps
 returns-then-b-saturating_sub-clause-steps c =
-    row_taken _ c.loop-word.self _ c.from-word.result c.without_first.result c.in_ok-b.b c.loop-word.invariant c.from-word.ensures c.in_ok-b.ensures
+    row_taken _ c.loop-word.self _ c.from-word.result c.without_first.result c.in_ok-b.b c.loop-word.invariant c.from-word.ensures c.in_ok-b.ensures.first
     c.without_first.ensures c.from-self-2.ensures (omega arith) refl refl refl
 
 pub returns-then-b-saturating_sub-clause-goes : goal.returns-then-b-saturating_sub-clause-goes
 returns-then-b-saturating_sub-clause-goes c =
     progress (λ s. tt)
-    (row_taken _ c.loop-word.self _ c.from-word.result c.without_first.result c.in_ok-b.b c.loop-word.invariant c.from-word.ensures c.in_ok-b.ensures
+    (row_taken _ c.loop-word.self _ c.from-word.result c.without_first.result c.in_ok-b.b c.loop-word.invariant c.from-word.ensures c.in_ok-b.ensures.first
     c.without_first.ensures c.from-self-2.ensures (omega arith) refl refl refl)
 
 pub returns-else-b-saturating_sub-clause-steps : goal.returns-else-b-saturating_sub-clause-steps
 returns-else-b-saturating_sub-clause-steps c =
     let s = c.loop-word.self in
-    none_left c.args.self.now s _ c.loop-word.invariant c.from-word.ensures (λ j l. left_before _ s.rest.now s.base c.in_ok-b.b c.in_ok-b.ensures j (omega arith))
+    none_left c.args.self.now s _ c.loop-word.invariant c.from-word.ensures (λ j l. left_before _ s.rest.now s.base c.in_ok-b.b c.in_ok-b.ensures.first j (omega arith))
