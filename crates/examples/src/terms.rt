@@ -7,7 +7,7 @@ use spelling::{MOST_CODE_PAIRS, MOST_CUBES};
 use std::{fmt, io};
 use text::input::{Reader, Text};
 
-// A cube of this many digits.
+// A cube of this many digits. It is no `spelling::Cube`: that what a call has listed is below 3^width is not known here without a proof of its own.
 #[derive(Clone, Copy)]
 struct Term {
     width: usize,
