@@ -7,7 +7,7 @@ use spelling::{MOST_CODE_PAIRS, MOST_CUBES};
 use std::{fmt, io};
 use text::input::{Reader, Text};
 
-// A cube of this many digits.
+// A cube of this many digits. It is no `spelling::Cube`: that what a call has listed is below 3^width is not known here without a proof of its own.
 #[derive(Clone, Copy)]
 struct Term {
     width: usize,
@@ -28,7 +28,12 @@ impl fmt::Display for Term {
     }
 }
 
-// The terms that a call has listed, or its refusal.
+// A refusal, by its number.
+fn report_refusal(rt: &impl Print, refusal: Refusal) -> io::Result<()> {
+    println!(rt; "refused {}", refusal.number())
+}
+
+// The terms that a call has listed, or its refusal. The answer stands beside the places, as the calls give them.
 fn report(
     rt: &impl Print,
     title: &str,
@@ -51,7 +56,7 @@ fn report(
             }
             println!(rt; "")
         }
-        Err(refusal) => println!(rt; "refused {}", refusal.number()),
+        Err(refusal) => report_refusal(rt, refusal),
     }
 }
 
@@ -62,7 +67,7 @@ fn report_plan(rt: &impl Print, width: usize, table: &[u8]) -> io::Result<()> {
     print!(rt; "  plan ")?;
     match plan::plan(width, table, &mut values, &mut cares) {
         Ok(totals) => println!(rt; "rows {} bits {}", totals.rows, totals.bits),
-        Err(refusal) => println!(rt; "refused {}", refusal.number()),
+        Err(refusal) => report_refusal(rt, refusal),
     }
 }
 
@@ -83,6 +88,9 @@ pub fn example(rt: &impl Print, name: &str, text: &str) -> io::Result<()> {
     reader.feed(text.as_bytes());
     match reader.text() {
         Ok(Text { width, cells }) => report_table(rt, width, cells),
-        Err(refusal) => println!(rt; "  refused {}", refusal.number()),
+        Err(refusal) => {
+            print!(rt; "  ")?;
+            report_refusal(rt, refusal)
+        }
     }
 }
