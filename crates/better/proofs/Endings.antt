@@ -17,10 +17,9 @@ use Rattle.plan.specs.declared.Totals.{Totals}
 use Rattle.plan.proofs.Refusals.{Plannable, plannable, refuses_as_table}
 use Rattle.plan.proofs.Answers.{not_refused, totals_are, accepted_refused}
 use Rattle.plan.proofs.Theorems.{values_stand, cares_stand, held}
-use Rattle.keep_out.specs.KeepOut.{MayKeepOut, PlansKeepOut}
+use Rattle.keep_out.specs.KeepOut.{MayKeepOut}
 use Rattle.keep_out.specs.Theorems.{exchanged}
 use Rattle.keep_out.proofs.Exchanging.{exchange}
-use Rattle.keep_out.proofs.Theorems.{plans_exchanged}
 use Rattle.better.specs.Better.{Kind, ordinary, keep_out, Choice, is_better, choose, said, said_of, Builds}
 use Rattle.better.specs.Steps.{Fits}
 use Rattle.better.specs.declared.Built.TheVariants.{Ordinary, KeepOut}
@@ -78,12 +77,6 @@ module _ (n : ℕ) (t values cares : List ℕ) where
     -- so neither call refuses
     pub list_drafted : {vs ws vs' ws' : List ℕ} (e : Refusal) → 2 ^ (widest - 1) ≤ length vs → 2 ^ (widest - 1) ≤ length ws → Plans n t vs ws vs' ws' (Err e) → ⊥
     list_drafted {vs} {ws} {vs'} {ws'} e v w p = accepted_refused p (none_locally (length vs) (length ws) v w)
-
-    pub excluding_drafted : {vs ws vs' ws' : List ℕ} (e : Refusal) → 2 ^ (widest - 1) ≤ length vs → 2 ^ (widest - 1) ≤ length ws
-        → PlansKeepOut n t vs ws vs' ws' (Err e) → ⊥
-    excluding_drafted {vs} {ws} {vs'} {ws'} e v w p =
-        accepted_refused ((plans_exchanged n t vs ws vs' ws' (Err e)).0 p)
-        ((exchange n t).refusal (length vs) (length ws) ∙ none_locally (length vs) (length ws) v w)
 
     pub fits : {u : List ℕ} (draft : Draft) → StandsIn n u draft.values draft.cares draft.totals → Fits draft values cares
     fits draft s = record {

@@ -3,14 +3,13 @@ use mathlib.Core.Path.{◌≡◌, sym, ap, ◌∙◌, subst}
 use mathlib.Core.List.{List}
 use Prim.Native.Nat.{ℕ, ◌^◌}
 use lib.ListN.{length}
-use Rattle.std.specs.Prelude.{Result, Ok, Err}
-use Rattle.cube.specs.Calls.{answered, written, refusal_number}
+use Rattle.std.specs.Prelude.{Result, Ok}
+use Rattle.cube.specs.Calls.{answered, written}
 use Rattle.cube.specs.declared.Refusal.{Refusal}
 use Rattle.plan.specs.Plan.{plan_refuses, totals_of, values_of, cares_of, Plans}
 use Rattle.plan.specs.declared.Totals.{Totals}
 use Rattle.plan.proofs.Refusals.{plannable}
 use Rattle.plan.proofs.Answers.{not_refused}
-use Rattle.plan.proofs.Endings.{plan_refused}
 use Rattle.plan.proofs.Theorems.{held, arrays_hold}
 use Rattle.keep_out.specs.KeepOut.{PlansKeepOut}
 use Rattle.keep_out.specs.Theorems.{exchanged, PlansExchanged, HeldKeepOut, ArraysKeepOut}
@@ -62,11 +61,7 @@ module _ (n : ℕ) (t values cares : List ℕ) where
       accepted = λ r e p. let d = (arrays_hold n (exchanged t) values cares values' cares').accepted r (same ∙ e) (to_plan r p) in (d.totals, d.answer);
     }
 
-  -- how the call ends where it refuses
-  pub keep_out_refused : (e : Refusal) → refusal_number e ≡ refusal t → PlansKeepOut n t values cares values cares (Err e)
-  keep_out_refused e h = (plans_exchanged values cares (Err e)).1 (plan_refused n (exchanged t) values cares e (h ∙ sym same))
-
-  -- and where Plan has written
+  -- how the call ends where Plan has written
   pub keep_out_done : {cells values' cares' : List ℕ} (r : Result Totals Refusal) → cells ≡ exchanged t → Plans n cells values cares values' cares' r
       → PlansKeepOut n t values cares values' cares' r
   keep_out_done {values' = values'} {cares'} r e p = (plans_exchanged values' cares' r).1 (subst (λ (u : List ℕ). Plans n u values cares values' cares' r) e p)

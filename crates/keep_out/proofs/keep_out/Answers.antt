@@ -1,8 +1,8 @@
 -- `keep_out::keep_out` meets its contract: it refuses as Plan does, or is Plan for the exchanged table. Assumes nothing.
-use Rattle.std.proofs.Common.{rules, ap, ◌∙◌, arith}
+use Rattle.std.proofs.Common.{ap, ◌∙◌, arith}
 use Rattle.cube.proofs.Calls.{codes_most}
 use Rattle.keep_out.specs.Theorems.{exchanged}
-use Rattle.keep_out.proofs.Theorems.{keep_out_refused, keep_out_done}
+use Rattle.keep_out.proofs.Theorems.{keep_out_done}
 use Rattle.keep_out.proofs.keep_out.Goals as goal
 
 pub exchange-cells-requires : goal.exchange-cells-requires
