@@ -74,7 +74,7 @@ module _ (n : ℕ) (t values cares : List ℕ) where
         refuses_as_table n t v w a b
         ∙ none_in_front (table_conditions n t) (when (short (length values) (plan_places n) || short (length cares) (plan_places n)) 4 ∷ []) none
 
-    -- so neither call refuses
+    -- so Plan does not refuse
     pub list_drafted : {vs ws vs' ws' : List ℕ} (e : Refusal) → 2 ^ (widest - 1) ≤ length vs → 2 ^ (widest - 1) ≤ length ws → Plans n t vs ws vs' ws' (Err e) → ⊥
     list_drafted {vs} {ws} {vs'} {ws'} e v w p = accepted_refused p (none_locally (length vs) (length ws) v w)
 
