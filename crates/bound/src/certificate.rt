@@ -61,7 +61,7 @@ fn weight_range(problem: &Subproblem) -> Option<Range>
         least = least.min(weight);
         most = most.max(weight);
     }
-    // Without a row the least is above the largest: the least of no weight is above any.
+    // Without a row the least, which begins at the highest weight, is above the largest, which begins at 1. `min` and `max` would go through the rows twice.
     if least <= most {
         Some(Range { least, most })
     } else {

@@ -159,7 +159,8 @@ struct Tableau<'a> {
     places: Places,
 }
 
-// The undecided columns' prices, and then the price of a row if rows are needed.
+// The undecided columns' prices, and then the price of a row if rows are needed. They are pushed one by one, here and in `load_rows`: `extend` answers a `Result`,
+// which would have to be ruled out.
 fn places_of(undecided: columns::Set, need: u64) -> Places {
     let mut places = ArrayVec::new();
     for c in undecided {

@@ -24,7 +24,7 @@ const SET_IN: [u64; VARIABLES] = [
 pub struct Exchange {
     pub low: columns::Set,
     pub distance: usize,
-    ghost near: { distance < column_limit },
+    pub ghost near: { distance < column_limit },
 }
 
 // What a variable adds to a column's number.
