@@ -31,7 +31,7 @@ SOLVING = """#![tactic(auto)]
 use matrix::{Matrix, columns};
 
 fn solve(words: &[columns::Set], weights: &[u32], columns: columns::Set, sums: &mut [u64; 3]) {
-    let answer = search::minimum_cover(Matrix::new(words, weights), columns);
+    let answer = search::minimum_cover(Matrix { words, weights }, columns);
     sums[0] += answer.nodes;
     if sums[1] < answer.nodes {
         sums[1] = answer.nodes;
@@ -60,7 +60,7 @@ NEXT = """let other = match branching::branching_row(&without) {
     };"""
 NO_SHARE = [(TIGHTEN, SHARE, "    low\n")]
 NO_IMPROVEMENT = [(DUAL, IMPROVE, "")]
-NO_ROUNDING = [(CERTIFICATE, "rounded(&self.problem, self.total)", "self.total")]
+NO_ROUNDING = [(CERTIFICATE, "rounded(&self.offer.problem, self.total)", "self.total")]
 NO_FIXING = [(CERTIFICATE, "        *live = solution.kept();\n", "")]
 
 VARIANTS = {

@@ -110,7 +110,7 @@ def examples():
 
 def in_the_program():
     """The same from the program's source: name, width, table."""
-    for name, width, table in re.findall(r'\(\s*"([^"]*)",\s*(\d+),\s*"([^"]*)",?\s*\)', (CRATE / 'src' / 'documents.rt').read_text()):
+    for name, width, table in re.findall(r'\(\s*"([^"]*)",\s*"(\d)\\n([^"]*)\\n",?\s*\)', (CRATE / 'src' / 'documents.rt').read_text()):
         yield name, int(width), table
 
 

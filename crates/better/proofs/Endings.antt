@@ -5,23 +5,21 @@ use mathlib.Core.Bool.{Bool, true, false, cond, ◌||◌}
 use mathlib.Core.List.{List, [], ◌∷◌}
 use Prim.Native.Nat.{ℕ, ◌-◌, ◌^◌, ◌≤◌}
 use native.Mathlib.Omega.{arith}
-use lib.ListN.{length, length-map, take}
-use Rattle.numbers.proofs.Fronts.{front_is}
+use lib.ListN.{length, take}
 use Rattle.cube.specs.Words.{Cover}
 use Rattle.std.specs.Prelude.{Ok, Err}
 use Rattle.cube.specs.Calls.{widest, short, when, table_conditions, refusal_number, gives, answered, written}
 use Rattle.cube.specs.declared.Refusal.{Refusal}
 use Rattle.cube.proofs.Calls.{none_in_front, refusal_from, refuses_answered, listed_refused}
 use Rattle.plan.specs.Plan.{plan_places, plan_refuses, totals_of, values_of, cares_of, Plans}
-use Rattle.plan.specs.Theorems.{MayWrite, Held}
+use Rattle.plan.specs.Theorems.{MayWrite}
 use Rattle.plan.specs.declared.Totals.{Totals}
 use Rattle.plan.proofs.Refusals.{Plannable, plannable, refuses_as_table}
-use Rattle.plan.proofs.Answers.{not_refused, totals_are, rows_is, accepted_refused}
-use Rattle.plan.proofs.Theorems.{arrays_hold}
-use Rattle.keep_out.specs.KeepOut.{MayKeepOut, PlansKeepOut}
+use Rattle.plan.proofs.Answers.{not_refused, totals_are, accepted_refused}
+use Rattle.plan.proofs.Theorems.{values_stand, cares_stand, held}
+use Rattle.keep_out.specs.KeepOut.{MayKeepOut}
 use Rattle.keep_out.specs.Theorems.{exchanged}
 use Rattle.keep_out.proofs.Exchanging.{exchange}
-use Rattle.keep_out.proofs.Theorems.{plans_exchanged}
 use Rattle.better.specs.Better.{Kind, ordinary, keep_out, Choice, is_better, choose, said, said_of, Builds}
 use Rattle.better.specs.Steps.{Fits}
 use Rattle.better.specs.declared.Built.TheVariants.{Ordinary, KeepOut}
@@ -38,28 +36,18 @@ pub record StandsIn (n : ℕ) (t vs ws : List ℕ) (totals : Totals) : Type 0 wh
   pub values_are : take totals.rows vs ≡ values_of list
   pub cares_are : take totals.rows ws ≡ cares_of list
 
-module _ (n : ℕ) (t values cares vs ws : List ℕ) (totals : Totals) (p : Plans n t values cares vs ws (Ok totals)) where
-  none_refuses : plan_refuses n t (length values) (length cares) ≡ 0
-  none_refuses = not_refused n t values cares vs ws totals p
-
-  held : Held n t values cares vs ws totals
-  held = (arrays_hold n t values cares vs ws).counted totals p
-
-  rows_are : totals.rows ≡ length p.list
-  rows_are = rows_is n t values cares vs ws totals p
-
-  -- where Plan has answered
-  pub stands : StandsIn n t vs ws totals
-  stands = record {
-    list = p.list;
-    may = record { minimum = p.minimum none_refuses; is_ascending = p.is_ascending none_refuses };
-    totals_are = totals_are n t values cares vs ws totals p;
-    enough_values = held.enough_values;
-    enough_cares = held.enough_cares;
-    few = held.few;
-    values_are = front_is (values_of p.list) values (rows_are ∙ sym (length-map p.list (λ x. x.value))) (p.values_are ∙ ap (λ (k : ℕ). written k (values_of p.list) values) none_refuses);
-    cares_are = front_is (cares_of p.list) cares (rows_are ∙ sym (length-map p.list (λ x. x.care))) (p.cares_are ∙ ap (λ (k : ℕ). written k (cares_of p.list) cares) none_refuses);
-  }
+-- where Plan has answered
+pub stands : {n : ℕ} {t values cares vs ws : List ℕ} {totals : Totals} → Plans n t values cares vs ws (Ok totals) → StandsIn n t vs ws totals
+stands p = record {
+  list = p.list;
+  may = record { minimum = p.minimum (not_refused p); is_ascending = p.is_ascending (not_refused p) };
+  totals_are = totals_are p;
+  enough_values = (held p).enough_values;
+  enough_cares = (held p).enough_cares;
+  few = (held p).few;
+  values_are = values_stand p;
+  cares_are = cares_stand p;
+}
 
 module _ (n : ℕ) (t values cares : List ℕ) where
   abbrev refusal : ℕ
@@ -86,15 +74,9 @@ module _ (n : ℕ) (t values cares : List ℕ) where
         refuses_as_table n t v w a b
         ∙ none_in_front (table_conditions n t) (when (short (length values) (plan_places n) || short (length cares) (plan_places n)) 4 ∷ []) none
 
-    -- so neither call refuses
+    -- so Plan does not refuse
     pub list_drafted : {vs ws vs' ws' : List ℕ} (e : Refusal) → 2 ^ (widest - 1) ≤ length vs → 2 ^ (widest - 1) ≤ length ws → Plans n t vs ws vs' ws' (Err e) → ⊥
-    list_drafted {vs} {ws} {vs'} {ws'} e v w p = accepted_refused n t vs ws vs' ws' e p (none_locally (length vs) (length ws) v w)
-
-    pub excluding_drafted : {vs ws vs' ws' : List ℕ} (e : Refusal) → 2 ^ (widest - 1) ≤ length vs → 2 ^ (widest - 1) ≤ length ws
-        → PlansKeepOut n t vs ws vs' ws' (Err e) → ⊥
-    excluding_drafted {vs} {ws} {vs'} {ws'} e v w p =
-        accepted_refused n (exchanged t) vs ws vs' ws' e ((plans_exchanged n t vs ws vs' ws' (Err e)).0 p)
-        ((exchange n t).refusal (length vs) (length ws) ∙ none_locally (length vs) (length ws) v w)
+    list_drafted {vs} {ws} {vs'} {ws'} e v w p = accepted_refused p (none_locally (length vs) (length ws) v w)
 
     pub fits : {u : List ℕ} (draft : Draft) → StandsIn n u draft.values draft.cares draft.totals → Fits draft values cares
     fits draft s = record {

@@ -15,7 +15,7 @@ use Rattle.cube.specs.Minimum.{NoBetter}
 use Rattle.cube.proofs.Calls.{answered_gives, answered_refuses}
 use Rattle.plan.specs.Plan.{plan_refuses, totals_of, values_of, cares_of, Plans}
 use Rattle.plan.specs.declared.Totals.{Totals}
-use Rattle.plan.proofs.Theorems.{arrays_hold}
+use Rattle.plan.proofs.Theorems.{held}
 use Rattle.keep_out.specs.KeepOut.{KeepsOut, PlansKeepOut}
 use Rattle.keep_out.proofs.Theorems.{arrays_keep_out}
 use Rattle.better.specs.Better.{ordinary, keep_out, Choice, is_better, choose, said_of, Builds}
@@ -123,7 +123,7 @@ module _ (n : ℕ) (t values cares values' cares' : List ℕ) (totals : Totals) 
 
 pub better_held : (n : ℕ) (t values cares values' cares' : List ℕ) → BetterHeld n t values cares values' cares'
 better_held n t values cares values' cares' = record {
-  ordinary = λ totals p. (arrays_hold n t values cares values' cares').counted totals (plans n t values cares values' cares' totals p);
+  ordinary = λ totals p. held (plans n t values cares values' cares' totals p);
   no_better_keep_out = no_better_keep_out n t values cares values' cares';
   keep_out = λ totals p. (arrays_keep_out n t values cares values' cares').counted totals (plans_keep_out n t values cares values' cares' totals p);
   worse_ordinary = worse_ordinary n t values cares values' cares';

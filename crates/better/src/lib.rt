@@ -53,6 +53,7 @@ impl Draft {
 
 // Builds both shortest lists for a table, and writes the better into the first places of both arrays, ascending by cube number. Answers which it is, with
 // its totals.
+// The two drafts are filled by the same three steps, not by a function: it would take the call as a closure, with what the call promises beside it.
 pub fn better(n: usize, table: &[u8], values: &mut [u8], cares: &mut [u8]) -> Result<Built, Refusal>
     ensures { Builds n table.now values.old cares.old values.new cares.new result }
 {

@@ -100,9 +100,6 @@ module _ (words weights : List ℕ) where
   -- ---- rows that no cover below the limit has
 
   module _ {u : ColumnSet} {limit : ℕ} where
-    pub kept_all : (live : RowSet) → Kept words weights live u limit live
-    kept_all live = record { fewer = λ i h. h; low = λ k l b. b }
-
     kept_then : {live rest last : RowSet} → Kept words weights live u limit rest → Kept words weights rest u limit last → Kept words weights live u limit last
     kept_then f g = record { fewer = λ i h. f.fewer i (g.fewer i h); low = λ k l b. f.low k l (g.low k l b) }
 

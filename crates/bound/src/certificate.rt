@@ -9,31 +9,37 @@ ghost use Rattle.bound.specs.Steps.{row_columns, Pays, Feasible, Ranges, Rounded
 use matrix::{Matrix, Subproblem, columns, rows};
 use pricing::Prices;
 
-// What the undecided columns of the row i are worth together.
-fn row_worth(problem: &Subproblem, prices: &Prices, i: usize) -> u64
-    requires { i < row_count problem.now.matrix.words.now }
-    ensures { Valued prices.now (row_columns problem.now.matrix.words.now problem.now.undecided i) result }
-{
-    pricing::worth(prices, problem.matrix.columns_of(i) & problem.undecided)
+// A sub-problem with prices for its columns.
+#[derive(Clone, Copy)]
+struct Offer<'a, 'b> {
+    problem: Subproblem<'a>,
+    prices: &'b Prices,
 }
 
-// Whether the undecided columns of the row i are worth no more than it weighs.
-fn pays(problem: &Subproblem, prices: &Prices, i: usize) -> bool
-    requires { i < row_count problem.now.matrix.words.now }
-    ensures { result ≡ true → Pays problem.now.matrix.words.now problem.now.matrix.weights.now problem.now.undecided prices.now i }
-{
-    row_worth(problem, prices, i) <= problem.matrix.weight(i)
-}
+impl<'a, 'b> Offer<'a, 'b> {
+    // What the undecided columns of the row i are worth together.
+    fn row_worth(&self, i: usize) -> u64
+        requires { i < row_count self.now.problem.matrix.words.now }
+        ensures { Valued self.now.prices.now (row_columns self.now.problem.matrix.words.now self.now.problem.undecided i) result }
+    {
+        pricing::worth(self.prices, self.problem.columns_of(i))
+    }
 
-// Whether each live row pays.
-#[tactic(auto, using(numbers::proofs::Closures::asked))]
-fn feasible(problem: &Subproblem, prices: &Prices) -> bool
-    ensures { result ≡ true → Feasible problem.now.matrix.words.now problem.now.matrix.weights.now problem.now.live.now problem.now.undecided prices.now }
-{
-    problem
-        .live
-        .iter(problem.matrix.rows())
-        .all(|i| pays(problem, prices, i))
+    // Whether the undecided columns of the row i are worth no more than it weighs.
+    fn pays(&self, i: usize) -> bool
+        requires { i < row_count self.now.problem.matrix.words.now }
+        ensures { let p = self.now.problem in result ≡ true → Pays p.matrix.words.now p.matrix.weights.now p.undecided self.now.prices.now i }
+    {
+        self.row_worth(i) <= self.problem.matrix.weight(i)
+    }
+
+    // Whether each live row pays.
+    #[tactic(auto, using(numbers::proofs::Closures::asked))]
+    fn is_feasible(&self) -> bool
+        ensures { let p = self.now.problem in result ≡ true → Feasible p.matrix.words.now p.matrix.weights.now p.live.now p.undecided self.now.prices.now }
+    {
+        self.problem.rows().all(|i| self.pays(i))
+    }
 }
 
 // The least and the largest weight of some rows.
@@ -50,11 +56,12 @@ fn weight_range(problem: &Subproblem) -> Option<Range>
 {
     let mut least = u64::from(u32::MAX);
     let mut most = 1;
-    for i in problem.live.iter(problem.matrix.rows()) {
+    for i in problem.rows() {
         let weight = problem.matrix.weight(i);
         least = least.min(weight);
         most = most.max(weight);
     }
+    // Without a row the least, which begins at the highest weight, is above the largest, which begins at 1. `min` and `max` would go through the rows twice.
     if least <= most {
         Some(Range { least, most })
     } else {
@@ -77,37 +84,35 @@ fn rounded(problem: &Subproblem, low: u64) -> u64
 // A certificate: the prices, what the undecided columns are worth in all, and the limit that covers are to stay below.
 #[derive(Clone, Copy)]
 struct DualSolution<'a, 'b> {
-    problem: Subproblem<'a>,
+    offer: Offer<'a, 'b>,
     limit: u64,
-    prices: &'b Prices,
     total: u64,
-    ghost shows: { Certificate problem.matrix.words.now problem.matrix.weights.now problem.live.now problem.undecided limit prices.now total },
+    ghost shows: { Certificate offer.problem.matrix.words.now offer.problem.matrix.weights.now offer.problem.live.now offer.problem.undecided limit offer.prices.now total },
 }
 
 impl<'a, 'b> DualSolution<'a, 'b> {
     // A lower bound: the total rounded up in rows.
     fn low(&self) -> u64
-        ensures { (k : ℕ) → k ≤ result → Low self.now.problem.matrix.words.now self.now.problem.matrix.weights.now self.now.problem.live.now self.now.problem.undecided k }
+        ensures { let p = self.now.offer.problem in (k : ℕ) → k ≤ result → Low p.matrix.words.now p.matrix.weights.now p.live.now p.undecided k }
     {
-        rounded(&self.problem, self.total)
+        rounded(&self.offer.problem, self.total)
     }
 
     // Whether every cover with the row i weighs as much as the limit: the row, and what it leaves.
     fn excludes(&self, i: usize) -> bool
-        requires { i < row_count self.now.problem.matrix.words.now }
-        ensures { result ≡ true → self.now.limit + worth self.now.prices.now (row_columns self.now.problem.matrix.words.now self.now.problem.undecided i) ≤ weight_of self.now.problem.matrix.weights.now i + self.now.total }
+        requires { i < row_count self.now.offer.problem.matrix.words.now }
+        ensures { let o = self.now.offer in result ≡ true → self.now.limit + worth o.prices.now (row_columns o.problem.matrix.words.now o.problem.undecided i) ≤ weight_of o.problem.matrix.weights.now i + self.now.total }
     {
-        let paid = row_worth(&self.problem, self.prices, i);
-        self.limit + paid <= self.problem.matrix.weight(i) + self.total
+        let paid = self.offer.row_worth(i);
+        self.limit + paid <= self.offer.problem.matrix.weight(i) + self.total
     }
 
     // The live rows without those that are in no cover below the limit.
-    #[tactic(auto, using(crate::proofs::Pricing::kept_all))]
     fn kept(&self) -> rows::Set
-        ensures { Kept self.now.problem.matrix.words.now self.now.problem.matrix.weights.now self.now.problem.live.now self.now.problem.undecided self.now.limit result }
+        ensures { let p = self.now.offer.problem in Kept p.matrix.words.now p.matrix.weights.now p.live.now p.undecided self.now.limit result }
     {
-        let mut kept = *self.problem.live;
-        for i in self.problem.live.iter(self.problem.matrix.rows()) {
+        let mut kept = *self.offer.problem.live;
+        for i in self.offer.problem.rows() {
             if self.excludes(i) {
                 kept.remove(i);
             }
@@ -117,7 +122,7 @@ impl<'a, 'b> DualSolution<'a, 'b> {
 }
 
 // What prices for the columns show: nothing, unless they are a certificate. Drops the live rows that no cover below the limit can have, and returns a lower bound.
-#[tactic(auto, using(crate::proofs::Pricing::kept_all))]
+// The parts of a `Subproblem` come one by one, for the reason told at `crate::tighten_by`.
 pub fn certified(
     matrix: Matrix,
     live: &mut rows::Set,
@@ -128,21 +133,19 @@ pub fn certified(
     requires { limit < cost_limit }
     ensures { Bounds matrix.entry.words.now matrix.entry.weights.now live.old undecided limit result live.new }
 {
-    let all = *live;
     let problem = Subproblem {
         matrix,
-        live: &all,
+        live,
         undecided,
     };
-    if !feasible(&problem, prices) {
+    let offer = Offer { problem, prices };
+    if !offer.is_feasible() {
         return 0;
     }
-    let total = pricing::worth(prices, undecided);
     let solution = DualSolution {
-        problem,
+        offer,
         limit,
-        prices,
-        total,
+        total: pricing::worth(prices, undecided),
     };
     let low = solution.low();
     if low < limit {

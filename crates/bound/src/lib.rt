@@ -8,7 +8,7 @@
 ghost use Rattle.std.specs.Prelude.{◌<◌};
 ghost use Rattle.bound.specs.Bound.{cost_limit, Bounds};
 
-use matrix::transposed::ByColumn;
+use matrix::transposed::{ByColumn, Indexed};
 use matrix::{Matrix, Subproblem, columns, rows};
 use pricing::Prices;
 use pricing::dual::{self, Problem};
@@ -17,7 +17,7 @@ pub mod certificate;
 
 // Drops the live rows that no cover below the limit can have, as prices for the columns show, and returns a lower bound. It is not inlined: its arrays are not to
 // lie on the stack of whoever asks for bounds on the way down.
-// The parts of a `Subproblem` come one by one, since the rows are lent to be changed and it only reads them.
+// The parts of a `Subproblem` come one by one: the rows are lent to be changed. Given back instead, they would come beside the bound in a struct of their own.
 #[inline(never)]
 fn tighten_by<F: Fn(&Problem) -> Prices>(
     find: F,
@@ -30,6 +30,7 @@ fn tighten_by<F: Fn(&Problem) -> Prices>(
     requires small { limit < cost_limit }
     ensures { Bounds matrix.entry.words.now matrix.entry.weights.now live.old undecided limit result live.new }
 {
+    // The ascent reads a copy of the rows: where the rows themselves are handed to it, each level of the search takes 208 bytes more of stack.
     let first = *live;
     let covering = Subproblem {
         matrix,
@@ -38,8 +39,10 @@ fn tighten_by<F: Fn(&Problem) -> Prices>(
     };
     let by_column = ByColumn::of(&covering);
     let prices = find(&Problem {
-        covering,
-        by_column: &by_column,
+        indexed: Indexed {
+            problem: covering,
+            by_column: &by_column,
+        },
         scale: 1,
         fee: 0,
     });
@@ -47,7 +50,8 @@ fn tighten_by<F: Fn(&Problem) -> Prices>(
 }
 
 // Drops the live rows that no cover below the limit can have, and returns a lower bound: by an ascent from zero, and by one from a fair share unless the first
-// is enough.
+// is enough. That the limit is below `cost_limit` is asked, and no type says it: a limit is what is left of another, and each level of a search would make one
+// anew.
 pub fn tighten(matrix: Matrix, live: &mut rows::Set, undecided: columns::Set, limit: u64) -> u64
     requires { limit < cost_limit }
     ensures { Bounds matrix.entry.words.now matrix.entry.weights.now live.old undecided limit result live.new }

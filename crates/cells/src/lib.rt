@@ -4,57 +4,55 @@
 //     cells::cells(4, 53, &mut codes)     // digits 1 2 2 2: Ok(8), the codes 8 to 15
 #![tactic(auto, using(cube::proofs::Calls::refusals))]
 
-ghost use Rattle.std.specs.Prelude.{◌<◌, ◌≤◌, ◌^◌, length};
+ghost use Rattle.std.specs.Prelude.{◌+◌, ◌≤◌, length};
 ghost use Rattle.numbers.specs.Lent.{Puts};
 ghost use Rattle.cube.specs.Words.{codes_of};
-ghost use Rattle.cube.specs.Calls.{widest, Listed};
+ghost use Rattle.cube.specs.Calls.{Listed};
 ghost use Rattle.cells.specs.Cells.{cells_refuses};
-ghost use Rattle.cells.specs.Steps.{FirstUntested, Splits, RoomForCodes};
+ghost use Rattle.cells.specs.Steps.{FirstUntested, Splits};
 
 use cube::Refusal;
+use spelling::Cube;
 
 // The place of the first untested digit, x1's first.
-fn first_untested(n: usize, q: usize) -> Option<usize>
-    requires { n ≤ widest }
-    ensures { FirstUntested n q result }
+fn first_untested(cube: Cube) -> Option<usize>
+    ensures { FirstUntested cube.width cube.number result }
 {
-    (0..n).rev().find(|&k| spelling::digit(q, k) == 2)
+    (0..cube.width)
+        .rev()
+        .find(|&k| spelling::digit(cube.number, k) == 2)
 }
 
 // A cube with no untested digit is one code; any other is two halves, the 0 half first.
 #[derive(Clone, Copy)]
 pub enum Split {
     Code(u8),
-    Halves(usize, usize),
+    Halves(Cube, Cube),
 }
 
 // The code of a cube, or its two halves at the first untested digit.
-pub fn split_at_first(n: usize, q: usize) -> Split
-    requires { (n ≤ widest) × (q < 3 ^ n) }
-    ensures { Splits n q result }
+pub fn split_at_first(cube: Cube) -> Split
+    ensures { Splits cube.width cube.number result }
 {
-    match first_untested(n, q) {
-        None => Split::Code(spelling::row(n, q).value),
-        Some(k) => {
-            let weight = spelling::cubes(k);
-            Split::Halves(q - 2 * weight, q - weight)
-        }
+    match first_untested(cube) {
+        None => Split::Code(cube.row().value),
+        Some(k) => Split::Halves(cube.with_digit(k, 0), cube.with_digit(k, 1)),
     }
 }
 
-// Writes the codes of q from place `at` on and returns the place after them.
-fn write_codes(n: usize, q: usize, out: &mut [u8], at: usize) -> usize
-    requires { RoomForCodes n q out.old at }
-    ensures { Puts (codes_of n q) out.old at out.new result }
+// Writes the codes of a cube from place `at` on and returns the place after them. The buffer is the caller's, as C lends it, with the place beside it.
+fn write_codes(cube: Cube, out: &mut [u8], at: usize) -> usize
+    requires { at + length (codes_of cube.width cube.number) ≤ length out.old }
+    ensures { Puts (codes_of cube.width cube.number) out.old at out.new result }
 {
-    match split_at_first(n, q) {
+    match split_at_first(cube) {
         Split::Code(code) => {
             out[at] = code;
             at + 1
         }
         Split::Halves(low, high) => {
-            let middle = write_codes(n, low, out, at);
-            write_codes(n, high, out, middle)
+            let middle = write_codes(low, out, at);
+            write_codes(high, out, middle)
         }
     }
 }
@@ -63,9 +61,9 @@ fn write_codes(n: usize, q: usize, out: &mut [u8], at: usize) -> usize
 pub fn cells(n: usize, q: usize, out: &mut [u8]) -> Result<usize, Refusal>
     ensures { Listed (cells_refuses n q (length out.old)) (codes_of n q) out.old out.new result }
 {
-    spelling::check_cube(n, q)?;
+    let cube = Cube::new(n, q)?;
     if out.len() < spelling::codes(n) {
         return Err(Refusal::ShortOutput);
     }
-    Ok(write_codes(n, q, out, 0))
+    Ok(write_codes(cube, out, 0))
 }

@@ -14,7 +14,7 @@ ghost use Rattle.chart_arrays.specs.Steps.{row_column};
 use arrayvec::ArrayVec;
 use cube::Row;
 use matrix::columns;
-use spelling::MOST_CUBES;
+use spelling::{Cube, MOST_CUBES};
 use tables::Table;
 
 // A chart row: cube number, code word, tested bits, laid out as C would lay it out.
@@ -31,7 +31,7 @@ pub struct ChartRow {
 fn is_column(cell: u8, code: usize, row: Row) -> bool
     ensures { result ≡ (cell == 1 && row_matches row code) }
 {
-    cell == 1 && code & row.care as usize == row.value as usize
+    cell == 1 && code & usize::from(row.care) == usize::from(row.value)
 }
 
 // The wanted codes that a row matches.
@@ -55,12 +55,13 @@ pub fn wanted(table: Table) -> columns::Set
     row_columns(table, Row { value: 0, care: 0 })
 }
 
-// The wanted codes that cube q matches.
+// The wanted codes that cube q matches. That q is a cube of the table is asked, since a number does not know of which width it is a cube.
 pub fn cube_columns(table: Table, q: usize) -> columns::Set
     requires { q < 3 ^ table.width }
     ensures { result ≡ columns_of table.entry.width table.entry.cells.now q }
 {
-    row_columns(table, spelling::row(table.width, q))
+    let width = table.width;
+    row_columns(table, Cube { width, number: q }.row())
 }
 
 // The chart's row of cube q.
@@ -68,12 +69,12 @@ fn row(table: Table, q: u16) -> ChartRow
     requires { q < 3 ^ table.width }
     ensures { result ≡ chart_row table.entry.width table.entry.cells.now q }
 {
-    let cube = q as usize;
-    let word = cube_columns(table, cube);
-    let care = spelling::row(table.width, cube).care;
+    let width = table.width;
+    let number = usize::from(q);
+    let care = Cube { width, number }.row().care;
     ChartRow {
         cube: q,
-        word,
+        word: cube_columns(table, number),
         literals: care.count_ones() as u8,
     }
 }

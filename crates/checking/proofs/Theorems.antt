@@ -4,10 +4,11 @@ use mathlib.Core.Logic.{◌↔◌, ⊎_elim}
 use mathlib.Core.Bool.{Bool, true, false, cond, not, ◌&&◌}
 use mathlib.Core.List.{List}
 use Prim.Native.Nat.{ℕ, ◌^◌, ◌<◌}
-use lib.Dec.{T}
+use lib.Dec.{T, T_not, not_T}
+use Rattle.std.specs.Bool.{passes}
 use Rattle.cube.specs.Words.{on_set, off_set, Cover, cover_matches, implements, rows_of}
 use Rattle.cube.specs.Calls.{gives, answered}
-use Rattle.numbers.proofs.Bools.{and_l, and_r, and_i, or_e, or_l, or_r, not_e, not_i, is_true, is_false, holds}
+use Rattle.numbers.proofs.Bools.{and_l, and_r, and_i, or_e, or_l, or_r, is_true, is_false}
 use Rattle.numbers.proofs.Below.{Lowest, lowest_or_none}
 use Rattle.cube.proofs.Calls.{same_value}
 use Rattle.cube.proofs.Theorems.{not_barred, implements_on, implements_off, implements_by}
@@ -29,7 +30,7 @@ module _ (n : ℕ) (t : List ℕ) (rs : Cover) where
   implements_none : T (implements n t rs) → NoneWrong
   unfolding NoneWrong
   implements_none h c l w =
-      ⊎_elim (λ x. not_e (cover_matches rs c) (and_r (on_set t c) (not (cover_matches rs c)) x) (implements_on n t rs h c l (and_l (on_set t c) (not (cover_matches rs c)) x)))
+      ⊎_elim (λ x. T_not (cover_matches rs c) (and_r (on_set t c) (not (cover_matches rs c)) x) (implements_on n t rs h c l (and_l (on_set t c) (not (cover_matches rs c)) x)))
       (λ x. implements_off n t rs h c l (and_l (off_set t c) (cover_matches rs c) x) (and_r (off_set t c) (cover_matches rs c) x))
       (or_e (is_missed t rs c) (is_stray t rs c) w)
 
@@ -51,7 +52,7 @@ module _ (n : ℕ) (t : List ℕ) (rs : Cover) where
     says_missed x = record {
       code = low.below;
       wanted = and_l (on_set t c) (not (cover_matches rs c)) x;
-      unmatched = not_e (cover_matches rs c) (and_r (on_set t c) (not (cover_matches rs c)) x);
+      unmatched = T_not (cover_matches rs c) (and_r (on_set t c) (not (cover_matches rs c)) x);
       lowest = low.none_lower;
     }
 
@@ -67,7 +68,7 @@ module _ (n : ℕ) (t : List ℕ) (rs : Cover) where
     says_named = go (is_missed t rs c) refl
       where
         go : (b : Bool) → is_missed t rs c ≡ b → Says (cond b (Missed c) (Stray c))
-        go true e = says_missed (holds (is_missed t rs c) e)
+        go true e = says_missed (passes (is_missed t rs c) e)
         go false e =
             says_stray (⊎_elim (λ x. absurd (subst T e x)) (λ x. x) (or_e (is_missed t rs c) (is_stray t rs c) low.passes))
 
@@ -84,7 +85,7 @@ module _ (n : ℕ) (t : List ℕ) (rs : Cover) where
   unfolding NoneWrong
   is_verdict Right h = verdict_right n t rs (implements_none h)
   is_verdict (Missed c) h =
-      let x : T (is_missed t rs c) = and_i (on_set t c) (not (cover_matches rs c)) h.wanted (not_i (cover_matches rs c) h.unmatched) in
+      let x : T (is_missed t rs c) = and_i (on_set t c) (not (cover_matches rs c)) h.wanted (not_T (cover_matches rs c) h.unmatched) in
       verdict-named n t rs c (record { below = h.code; passes = or_l (is_missed t rs c) (is_stray t rs c) x; none_lower = h.lowest })
       ∙ ap (λ (b : Bool). cond b (Missed c) (Stray c)) (is_true (is_missed t rs c) x)
   is_verdict (Stray c) h =

@@ -8,8 +8,9 @@ use Prim.Native.Nat.{ℕ, ◌^◌, ◌<◌}
 use native.Mathlib.Omega.{arith}
 use lib.Dec.{T}
 use borrow.Author.Tests.{eq-eqb, ne_eqb}
+use Rattle.std.specs.Bool.{passes}
 use Rattle.cube.specs.Words.{cell, on_set, off_set, Cover, cover_matches}
-use Rattle.numbers.proofs.Bools.{and_l, or_l, or_r, or_e, same, holds}
+use Rattle.numbers.proofs.Bools.{and_l, or_l, or_r, or_e, same}
 use Rattle.numbers.proofs.Below.{those_none, Lowest, those_lowest}
 use Rattle.cube.proofs.Theorems.{not_barred}
 use Rattle.checking.specs.Check.{is_missed, is_stray, is_wrong, named, verdict}
@@ -44,10 +45,10 @@ module _ (n : ℕ) (t : List ℕ) (rs : Cover) where
     pub missed_named : cell t c ≡ 1 → m ≡ false → Missed c ≡ verdict n t rs
     missed_named w u =
         let x : is_missed t rs c ≡ true = ap₂ (λ (a b : Bool). a && not b) (eq-eqb (cell t c) 1 w) (sym e ∙ u) in
-        sym (verdict-named c (lowest (or_l (is_missed t rs c) (is_stray t rs c) (holds _ x))) ∙ ap (λ (b : Bool). cond b (Missed c) (Stray c)) x)
+        sym (verdict-named c (lowest (or_l (is_missed t rs c) (is_stray t rs c) (passes _ x))) ∙ ap (λ (b : Bool). cond b (Missed c) (Stray c)) x)
 
     pub stray_named : cell t c ≡ 0 → m ≡ true → Stray c ≡ verdict n t rs
     stray_named w u =
         let x : is_stray t rs c ≡ true = ap₂ ◌&&◌ (eq-eqb (cell t c) 0 w) (sym e ∙ u) in
         let y : is_missed t rs c ≡ false = ap (λ (a : Bool). a && not (cover_matches rs c)) (ne_eqb (cell t c) 1 (λ d. omega arith)) in
-        sym (verdict-named c (lowest (or_r (is_missed t rs c) (is_stray t rs c) (holds _ x))) ∙ ap (λ (b : Bool). cond b (Missed c) (Stray c)) y)
+        sym (verdict-named c (lowest (or_r (is_missed t rs c) (is_stray t rs c) (passes _ x))) ∙ ap (λ (b : Bool). cond b (Missed c) (Stray c)) y)

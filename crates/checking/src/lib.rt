@@ -25,7 +25,7 @@ pub enum Verdict {
 }
 
 // The lowest wrong code with its name, or right where none is wrong, for a list that matches these codes.
-fn lowest_wrong(table: Table<'_>, matched: columns::Set) -> Verdict
+fn lowest_wrong(table: Table, matched: columns::Set) -> Verdict
     ensures { Judges table.entry.width table.entry.cells.now matched result }
 {
     for (c, cell) in table.cells.iter().enumerate() {

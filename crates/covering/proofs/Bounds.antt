@@ -38,6 +38,11 @@ pub weight_times : (d : ℕ) (a : ℕ → ℕ) (L : List ℕ) → weight (λ i. 
 weight_times d a [] = omega arith
 weight_times d a (x ∷ L) = omega (arith, weight_times d a L)
 
+-- where m times d is k or more, k / d rounded up is at most m
+pub rounded_up : (d k m : ℕ) → 0 < d → k ≤ d * m → (k + (d - 1)) / d ≤ m
+rounded_up d k m pos h = let e : k + (d - 1) < suc m * d = omega arith in
+    let g : (k + (d - 1)) / d < suc m = (div-lt_iff_lt-mul pos).1 e in omega arith
+
 module _ (cov : ℕ → ℕ → Type 0) where
   pub hits_append : (L M : List ℕ) (c : ℕ) → Hits cov L c ⊎ Hits cov M c → Hits cov (L ++ M) c
   hits_append [] M c h = ⊎_elim (λ x. absurd x) (λ x. x) h
@@ -119,13 +124,8 @@ module _ (cov : ℕ → ℕ → Type 0) where
   pub divided : {w a : ℕ → ℕ} {A U : ℕ → Type 0} {k : ℕ} (d : ℕ) → 0 < d → ((i : ℕ) → A i → w i ≤ d * a i) → AtLeast cov w A U k
       → AtLeast cov a A U ((k + (d - 1)) / d)
   divided {w} {a} {k = k} d pos f b = record {
-    bound = λ L l s. round (weight a L)
-        (omega (arith, b.bound L l s, weight_le f L l, weight_times d a L));
+    bound = λ L l s. rounded_up d k (weight a L) pos (omega (arith, b.bound L l s, weight_le f L l, weight_times d a L));
   }
-    where
-      round : (m : ℕ) → k ≤ d * m → (k + (d - 1)) / d ≤ m
-      round m h = let e : k + (d - 1) < suc m * d = omega arith in
-          let g : (k + (d - 1)) / d < suc m = (div-lt_iff_lt-mul pos).1 e in omega arith
 
   -- an inequality times d
   pub multiplied : {w a : ℕ → ℕ} {A U : ℕ → Type 0} {k : ℕ} (d : ℕ) → ((i : ℕ) → A i → d * a i ≤ w i) → AtLeast cov a A U k → AtLeast cov w A U (d * k)

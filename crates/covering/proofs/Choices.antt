@@ -4,10 +4,10 @@ use mathlib.Core.Path.{◌≡◌, refl, sym, ◌∙◌}
 use mathlib.Core.Bool.{Bool, false, ◌||◌}
 use Prim.Native.Nat.{ℕ, ◌+◌, ◌≤◌, ◌<◌}
 use native.Mathlib.Omega.{arith}
+use Rattle.std.proofs.lemmas.Bool.{false_from_ne_true}
 use Rattle.numbers.specs.Below.{those}
 use Rattle.covering.specs.Weighted.{AtLeast, LeastCover, SetCovers}
 use Rattle.covering.specs.Search.{none, Reduced, Answers}
-use Rattle.numbers.proofs.Flags.{not_set}
 use Rattle.covering.proofs.Sums.{sum_skip, if_set_false}
 use Rattle.covering.proofs.Bounds.{within_mono, nothing, branch}
 use Rattle.covering.proofs.Sets.{rows_within, rows_hit, rows_weight}
@@ -59,4 +59,4 @@ minimum cov w N n {A} {U} {limit} {k} {p} le below all l f = record {
     found = f.cover l
 
     past : (i : ℕ) → n ≤ i → p i ≡ false
-    past i h = not_set (p i) (λ e. let b = below i (found.live i e) in omega arith)
+    past i h = false_from_ne_true (p i) (λ e. let b = below i (found.live i e) in omega arith)

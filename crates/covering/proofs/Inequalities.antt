@@ -7,19 +7,20 @@ use mathlib.Core.List.{List, [], ◌∷◌}
 use mathlib.Core.Logic.{◌⊎◌, inl, inr, ⊎_elim}
 use mathlib.Core.Bool.{Bool, true, false, ◌||◌}
 use Prim.Native.Nat.{ℕ, zero, suc, ◌+◌, ◌-◌, ◌*◌, ◌/◌, ◌≤◌, ◌<◌, max}
-use native.Mathlib.Nat.{mul-le-mul_left, div-lt_iff_lt-mul, max-le}
+use native.Mathlib.Nat.{mul-le-mul_left, max-le}
 use native.Mathlib.Decide.{ℕ_discrete}
 use native.Mathlib.Omega.{arith}
 use lib.Dec.{eqb}
 use borrow.Author.Tests.{eq-eqb, eqb-true, ne_eqb}
+use Rattle.std.proofs.lemmas.Bool.{or_left, or_right}
 use Rattle.numbers.specs.Below.{those, among}
 use Rattle.covering.specs.Sum.{if_set, sum}
 use Rattle.covering.specs.Weighted.{Within, Hits, Covers, weight, AtLeast, total}
 use Rattle.covering.specs.Search.{only}
 use Rattle.covering.specs.Inequalities.{Has, NoRow, OnlyRow, Rival, Valid, Needs, AtLeastWith, excess}
-use Rattle.numbers.proofs.Flags.{clash, either_of, left_of, right_of}
+use Rattle.numbers.proofs.Flags.{clash, either_of}
 use Rattle.covering.proofs.Sums.{sum_mono, sum-add, sum_skip, if_set_true, if_set_false, if_set_le}
-use Rattle.covering.proofs.Bounds.{within_mono, weight_le, weight-add, weight_times, hitter}
+use Rattle.covering.proofs.Bounds.{within_mono, weight_le, weight-add, weight_times, rounded_up, hitter}
 use Rattle.covering.proofs.Sets.{rows_within, rows_hit, rows_weight}
 
 -- ---- selections
@@ -44,7 +45,7 @@ all_among : (L : List ℕ) → Within (λ i. among i L ≡ true) L
 unfolding among
 all_among [] = tt
 all_among (x ∷ L) =
-    (left_of (eqb x x) (among x L) refl (eq-eqb x x refl), within_mono (λ i e. right_of (eqb i x) (among i L) refl e) L (all_among L))
+    (or_left _ _ (eq-eqb x x refl), within_mono (λ i e. or_right (eqb i x) _ e) L (all_among L))
 
 among-within : (A : ℕ → Type 0) (L : List ℕ) (i : ℕ) → Within A L → among i L ≡ true → A i
 unfolding among
@@ -133,12 +134,8 @@ module _ (cov : ℕ → ℕ → Type 0) (w : ℕ → ℕ) where
     pub valid_divided : {v a : ℕ → ℕ} {k : ℕ} (d : ℕ) → 0 < d → ((i : ℕ) → A i → v i ≤ d * a i) → Valid cov w A U limit R v k
         → Valid cov w A U limit R a ((k + (d - 1)) / d)
     valid_divided {a = a} {k = k} d pos f x = record {
-      bound = λ L q. round (weight a L) (omega (arith, x.bound L q, weight_le f L q.within, weight_times d a L));
+      bound = λ L q. rounded_up d k (weight a L) pos (omega (arith, x.bound L q, weight_le f L q.within, weight_times d a L));
     }
-      where
-        round : (m : ℕ) → k ≤ d * m → (k + (d - 1)) / d ≤ m
-        round m h = let e : k + (d - 1) < suc m * d = omega arith in
-            let g : (k + (d - 1)) / d < suc m = (div-lt_iff_lt-mul pos).1 e in omega arith
 
     -- the rows of a rival below n, each once, where the others cover nothing
     rival_once : (n : ℕ) → ((i c : ℕ) → n ≤ i → cov i c → ⊥) → ((r : ℕ) → R r → r < n) → (L : List ℕ) → Rival cov w A U limit R L

@@ -9,10 +9,11 @@ use native.Mathlib.Nat.{add-zero}
 use native.Mathlib.Omega.{arith}
 use lib.Dec.{eqb}
 use borrow.Author.Tests.{eq-eqb, eqb-true}
+use Rattle.std.proofs.lemmas.Bool.{false_from_ne_true, or_left, or_right}
 use Rattle.covering.specs.Sum.{if_set, sum}
 use Rattle.covering.specs.Weighted.{Within, Hits, weight, SetCovers}
 use Rattle.covering.specs.Search.{none, only, ◌∪◌, Reduced}
-use Rattle.numbers.proofs.Flags.{clash, not_set, either_of, left_of, right_of}
+use Rattle.numbers.proofs.Flags.{clash, either_of}
 use Rattle.covering.proofs.Sums.{sum_same, sum_skip, sum_with}
 use Rattle.covering.proofs.Bounds.{smaller, narrower, branch, dominated, uncoverable}
 
@@ -37,8 +38,8 @@ module _ (cov : ℕ → ℕ → Type 0) (w : ℕ → ℕ) (n : ℕ) where
       → ((c : ℕ) → U c → cov r c ⊎ U' c) → SetCovers cov w n A' U' p k → SetCovers cov w n A U (only r ∪ p) (w r + k)
   cover_with {A} {p = p} r l is out fewer left x = record {
     live = λ i y. ⊎_elim (λ e. subst A (sym (eqb-true i r e)) is) (λ z. fewer i (x.live i z)) (either_of (eqb i r) (p i) y);
-    covers = λ c u. ⊎_elim (λ y. (r, left_of (eqb r r) (p r) refl (eq-eqb r r refl), y)) (λ v. let t = x.covers c v in (t.0, right_of (eqb t.0 r) (p t.0) refl t.1, t.2)) (left c u);
-    weighs = sum_with n r w p (only r ∪ p) l (not_set (p r) (λ y. out (x.live r y))) (λ i. refl) ∙ ap (λ (y : ℕ). w r + y) x.weighs;
+    covers = λ c u. ⊎_elim (λ y. (r, or_left _ _ (eq-eqb r r refl), y)) (λ v. let t = x.covers c v in (t.0, or_right (eqb t.0 r) _ t.1, t.2)) (left c u);
+    weighs = sum_with n r w p (only r ∪ p) l (false_from_ne_true (p r) (λ y. out (x.live r y))) (λ i. refl) ∙ ap (λ (y : ℕ). w r + y) x.weighs;
   }
 
   -- ---- reductions

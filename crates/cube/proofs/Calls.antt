@@ -1,14 +1,15 @@
 -- What the calls share: the first condition that holds, and conditions after others; a width, a table and a list that are not refused; what an answer
 -- tells; and the two ways in which a call that writes a list ends. Assumes nothing.
 use mathlib.Core.Path.{◌≡◌, refl, sym, ap, ap₂, ◌∙◌}
-use mathlib.Core.Bool.{Bool, true, false, cond, not, ◌&&◌, ◌||◌, true≢false}
+use mathlib.Core.Bool.{Bool, true, false, cond, not, ◌&&◌, ◌||◌}
 use mathlib.Core.List.{List, [], ◌∷◌, ◌++◌}
 use Prim.Native.Nat.{ℕ, zero, suc, ◌-◌, ◌^◌, ◌<◌, ◌≤◌}
 use native.Mathlib.Nat.{pow-le-pow_right}
 use native.Mathlib.Omega.{arith}
-use lib.Dec.{T, eqb, lit<}
+use lib.Dec.{T, eqb, lit<, T_not}
 use lib.ListN.{length, take, drop}
 use lib.Pow.{pow_mono}
+use mir.Facts.{yes_eqb}
 use Rattle.std.specs.Prelude.{Result, Ok, Err}
 use Rattle.std.proofs.lemmas.Bool.Decides.{nat_tests}
 use borrow.Author.Tests.{le-ltb, eq-eqb}
@@ -16,16 +17,12 @@ use Rattle.cube.specs.Words.{rows_of, essential, essentials_of, serving_prime, s
 use Rattle.cube.specs.Calls.{widest, bad_width, bad_length, bad_cell, short, unequal_lengths, most_rows, bad_row, Condition, when, first_of, table_conditions, list_conditions, Answer, refuses, gives, answered, written, refusal_number, answer_of, Listed}
 use Rattle.cube.specs.declared.Refusal.{Refusal}
 use Rattle.numbers.specs.Lent.{Puts}
-use Rattle.numbers.proofs.Bools.{and_l, and_r, not_e, eqb_of}
+use Rattle.numbers.proofs.Bools.{and_l, and_r}
 use Rattle.numbers.proofs.Below.{those-length}
 use Rattle.numbers.proofs.Fronts.{front_is, front_behind}
 use Rattle.numbers.proofs.Lent.{front_count, front_places}
 
 -- ---- a good width
-
-pub neither : (a b : Bool) → (a || b) ≡ false → (a ≡ false) × (b ≡ false)
-neither false b e = (refl, e)
-neither true b e = absurd (true≢false e)
 
 pub width_to : (n : ℕ) → bad_width n ≡ false → n ≤ widest
 width_to n e = grind (arith, nat_tests)
@@ -87,7 +84,7 @@ conditions_pass (x ∷ xs) ys n e =
   where
     go : (b : Bool) → cond b x.number (first_of xs) ≡ 0 → (first_of xs ≡ 0 → first_of (xs ++ ys) ≡ first_of ys)
         → cond b x.number (first_of (xs ++ ys)) ≡ first_of ys
-    go true h rest = absurd (not_e (eqb x.number 0) (and_l (not (eqb x.number 0)) (numbered xs) n) (eqb_of x.number 0 h))
+    go true h rest = absurd (T_not (eqb x.number 0) (and_l (not (eqb x.number 0)) (numbered xs) n) (yes_eqb h))
     go false h rest = rest h
 
 pub none_in_front : (xs ys : List Condition) → first_of (xs ++ ys) ≡ 0 → first_of xs ≡ 0

@@ -9,10 +9,11 @@ use native.Mathlib.Nat.{not-suc-le-zero, le_of_suc-le-suc, mod-lt, pow-zero, pow
 use native.Mathlib.Omega.{arith}
 use lib.Dec.{T, eqb, eqb→eq, eqb_refl, lit<}
 use borrow.Author.Tests.{eq-eqb, ne_eqb}
+use Rattle.std.proofs.lemmas.Bool.{cases_eq}
 use Rattle.numbers.specs.Below.{flag}
 use Rattle.cube.specs.Words.{fits, tested, digit, cube_matches, cube_literals, value_of}
 use Rattle.numbers.proofs.Below.{flag_lt}
-use Rattle.numbers.proofs.Bools.{and_l, and_r, and_i, or_e, or_r, eq_or_ne}
+use Rattle.numbers.proofs.Bools.{and_l, and_r, and_i, or_e, or_r}
 
 -- the cube with digit d put at place k, counted from the last
 unfoldable pub put_digit : ℕ → ℕ → ℕ → ℕ
@@ -343,7 +344,7 @@ digits_same = places_same 3 (lit< tt) digit (λ q. refl) (λ k q. refl)
 pub put_between : (n k q p : ℕ) → k < n → q < 3 ^ n → p < 3 ^ n → ((j : ℕ) → j < n → (j ≡ k → ⊥) → digit j q ≡ digit j p) → q ≡ put_digit k (digit k q) p
 put_between n k q p l a b f = digits_same n q (put_digit k (digit k q) p) a (put_lt n k (digit k q) p l (digit_lt k q) b) λ j m.
     ⊎_elim (λ e. subst⁻¹ (λ (i : ℕ). digit i q ≡ digit i (put_digit k (digit k q) p)) e (sym (put_digit_lem k (digit k q) p (digit_lt k q))))
-    (λ ne. f j m ne ∙ sym (put_other k j (digit k q) p (digit_lt k q) ne)) (eq_or_ne j k)
+    (λ ne. f j m ne ∙ sym (put_other k j (digit k q) p (digit_lt k q) ne)) (cases_eq j k)
 
 -- the bit of a code at place k, counted from the last
 unfoldable pub bit : ℕ → ℕ → ℕ

@@ -6,10 +6,13 @@ use mathlib.Core.Bool.{Bool, true, false, not, ◌&&◌, ◌||◌}
 use mathlib.Core.List.{List}
 use Prim.Native.Nat.{ℕ, zero, suc, ◌^◌, ◌<◌}
 use native.Mathlib.Omega.{arith}
-use lib.Dec.{T, eqb, ltb, eqb→eq, lit<, ltb→lt, lt→ltb}
+use lib.Dec.{T, eqb, ltb, eqb→eq, lit<, ltb→lt, lt→ltb, T_not, not_T}
+use mir.Facts.{yes_eqb}
+use Rattle.std.specs.Bool.{passes}
+use Rattle.std.proofs.lemmas.Bool.{cases_lt}
 use Rattle.numbers.specs.Below.{some}
 use Rattle.cube.specs.Words.{off_set, tested, digit, cube_matches, cube_literals, value_of, within, implicant, wider, prime}
-use Rattle.numbers.proofs.Bools.{and_l, and_r, and_i, imp_e, imp_i, nand_e, nand_i, not_e, not_i, same, holds, eqb_of, lt_or_le}
+use Rattle.numbers.proofs.Bools.{and_l, and_r, and_i, imp_e, imp_i, nand_e, nand_i, same}
 use Rattle.numbers.proofs.Below.{every_at, every_by, some_at, none_at, none_by}
 use Rattle.cube.proofs.Digits.{put_digit, contained, contained_matches, matches_contained, contained_refl, contained_trans, contained_same, put_wider, put_literals, put_lt, put_narrower, is_tested, matches_halves, value_lt, value_matches, value_alone, spare}
 
@@ -66,8 +69,8 @@ implicant_split n t k q l e = same (implicant n t q) (implicant n t low && impli
 pub implicant_code : (n : ℕ) (t : List ℕ) (q : ℕ) → ((k : ℕ) → k < n → digit k q ≡ 2 → ⊥) → implicant n t q ≡ not (off_set t (value_of n q))
 implicant_code n t q f =
     same (implicant n t q) (not (off_set t (value_of n q)))
-    (λ h. not_i (off_set t (value_of n q)) (implicant_at n t q h (value_of n q) (value_lt n q) (value_matches n q)))
-    (λ h. implicant_by n t q (λ c l x y. not_e (off_set t (value_of n q)) h (subst⁻¹ (λ (i : ℕ). T (off_set t i)) (sym (value_alone n q f c l x)) y)))
+    (λ h. not_T (off_set t (value_of n q)) (implicant_at n t q h (value_of n q) (value_lt n q) (value_matches n q)))
+    (λ h. implicant_by n t q (λ c l x y. T_not (off_set t (value_of n q)) h (subst⁻¹ (λ (i : ℕ). T (off_set t i)) (sym (value_alone n q f c l x)) y)))
 
 -- ---- primes
 
@@ -98,7 +101,7 @@ module _ (n : ℕ) (t : List ℕ) (q : ℕ) where
   expands_wider : (k : ℕ) → k < n → T (expands n t q k) → T (wider n t q (put_digit k 2 q))
   expands_wider k m h =
       let p : ℕ = put_digit k 2 q in
-      let ne : digit k q ≡ 2 → ⊥ = λ e. not_e (eqb (digit k q) 2) (and_l (tested (digit k q)) (implicant n t p) h) (eqb_of (digit k q) 2 e) in
+      let ne : digit k q ≡ 2 → ⊥ = λ e. T_not (eqb (digit k q) 2) (and_l (tested (digit k q)) (implicant n t p) h) (yes_eqb e) in
       and_i (implicant n t p) (ltb (cube_literals n p) (cube_literals n q) && within n q p) (and_r (tested (digit k q)) (implicant n t p) h)
       (and_i (ltb (cube_literals n p) (cube_literals n q)) (within n q p)
       (lt→ltb (cube_literals n p) (cube_literals n q) (omega (arith, put_literals n k 2 q m (lit< tt), is_tested (digit k q) ne)))
@@ -111,7 +114,7 @@ module _ (n : ℕ) (t : List ℕ) (q : ℕ) where
       let r : ℕ = put_digit s.place 2 q in (
         s.place,
         s.inside,
-        and_i (tested (digit s.place q)) (implicant n t r) (not_i (eqb (digit s.place q) 2) (λ e. s.is_literal (eqb→eq _ 2 e)))
+        and_i (tested (digit s.place q)) (implicant n t r) (not_T (eqb (digit s.place q) 2) (λ e. s.is_literal (eqb→eq _ 2 e)))
             (implicant_contained n t r p s.still (wider-implicant n t q p h)),
       )
 
@@ -130,7 +133,7 @@ prime-implicant n t q h = and_l (implicant n t q) (not (some (3 ^ n) (wider n t 
 -- a prime within an implicant is that implicant
 pub prime-within : (n : ℕ) (t : List ℕ) (q p : ℕ) → q < 3 ^ n → p < 3 ^ n → T (prime n t q) → T (implicant n t p) → T (contained n q p) → q ≡ p
 unfolding prime
-prime-within n t q p l m h i s = ⊎_elim (λ f. absurd (narrower f)) (λ f. contained_same n q p l m s f) (lt_or_le (cube_literals n p) (cube_literals n q))
+prime-within n t q p l m h i s = ⊎_elim (λ f. absurd (narrower f)) (λ f. contained_same n q p l m s f) (cases_lt (cube_literals n p) (cube_literals n q))
   where
     narrower : cube_literals n p < cube_literals n q → ⊥
     narrower f =
@@ -161,7 +164,7 @@ climb n t (suc fuel) q f l h = go (some (3 ^ n) (wider n t q)) refl (λ p. climb
 
     go : (b : Bool) → some (3 ^ n) (wider n t q) ≡ b → ((p : ℕ) → cube_literals n p < fuel → p < 3 ^ n → T (implicant n t p) → PrimeAbove n t p) → PrimeAbove n t q
     go true e ih =
-        let w = some_at (3 ^ n) (wider n t q) (holds (some (3 ^ n) (wider n t q)) e) in
+        let w = some_at (3 ^ n) (wider n t q) (passes (some (3 ^ n) (wider n t q)) e) in
         above w.0 w.2 (ih w.0 (omega (arith, wider_fewer n t q w.0 w.2)) w.1 (wider-implicant n t q w.0 w.2))
     go false e ih = record {
       cube = q;

@@ -7,7 +7,7 @@ use Prim.Native.Nat.{ℕ, suc, ◌<◌}
 use native.Mathlib.Omega.{arith}
 use lib.ListN.{length, get_or}
 use Rattle.numbers.specs.Below.{some}
-use Rattle.cube.specs.Words.{Row, Cover, row_matches, formed, each_row, cover_matches, rows_of}
+use Rattle.cube.specs.Words.{Row, Cover, formed, each_row, rows_of}
 use Rattle.cube.specs.Calls.{bad_row}
 use Rattle.numbers.proofs.Bools.{not_and}
 use Rattle.numbers.proofs.Below.{some_found, some_none, some_front}
@@ -34,15 +34,6 @@ any_place f (v ∷ vs) [] e = absurd (omega arith)
 any_place f (v ∷ vs) (w ∷ ws) e =
     ap (λ (b : Bool). f (record { value = v; care = w }) || b) (any_place f vs ws (omega arith))
     ∙ sym (some_front (length vs) (λ i. f (row_in (v ∷ vs) (w ∷ ws) i)))
-
--- a list matches a code where the row in some place does
-pub matches_place : (vs ws : List ℕ) (c : ℕ) → length vs ≡ length ws → cover_matches (rows_of vs ws) c ≡ some (length vs) (λ i. row_matches (row_in vs ws i) c)
-unfolding cover_matches any_row
-matches_place vs ws c e = any (rows_of vs ws) ∙ any_place (λ r. row_matches r c) vs ws e
-  where
-    any : (rs : Cover) → cover_matches rs c ≡ any_row (λ r. row_matches r c) rs
-    any [] = refl
-    any (r ∷ rs) = ap (λ (b : Bool). row_matches r c || b) (any rs)
 
 -- some row of the list is not formed where the row in some place is not
 bad_place : (n : ℕ) (vs ws : List ℕ) → length vs ≡ length ws → bad_row n (rows_of vs ws) ≡ some (length vs) (λ i. not (formed n (row_in vs ws i)))

@@ -8,14 +8,17 @@ use mathlib.Core.Bool.{Bool, true, false, not, ◌||◌}
 use mathlib.Core.List.{List}
 use Prim.Native.Nat.{ℕ, zero, suc, ◌+◌, ◌-◌, ◌^◌, ◌<◌, ◌≤◌}
 use native.Mathlib.Omega.{arith}
-use lib.Dec.{T, eqb, ltb, eqb→eq, lit<}
+use lib.Dec.{T, eqb, ltb, eqb→eq, lit<, T_not, not_T}
 use lib.ListN.{length, get_or-eq_default}
+use mir.Facts.{yes_eqb}
 use borrow.Author.Tests.{ltb-false}
+use Rattle.std.specs.Bool.{passes}
+use Rattle.std.proofs.lemmas.Bool.{cases_lt}
 use Rattle.numbers.specs.Below.{flag, some}
 use Rattle.cube.specs.Words.{cell, tested, digit, cube_matches, cube_literals, value_of, implicant, prime, essential, primes_of, essentials_of, serves, serving_prime, serving_primes_of}
 use Rattle.cube.specs.Calls.{bad_cell}
 use Rattle.cube.specs.McCluskey.{is_term, BinaryEquivalent, IdenticalExcept, Combination, Character, CheckMarked, PrimeImplicant, cross, CrossedRow, SingleAsterisk, crosses, Terms, Agreement}
-use Rattle.numbers.proofs.Bools.{and_l, and_r, and_i, not_e, not_i, is_false, holds, eqb_of, lt_or_le}
+use Rattle.numbers.proofs.Bools.{and_l, and_r, and_i, is_false}
 use Rattle.numbers.proofs.Below.{some_at, some_by, none_at, none_by, count_one, count-alone, those_each_once}
 use Rattle.cube.proofs.Digits.{put_digit, two, digit_lt, bit, bit-weight, put_lt, put_digit_lem, put_other, put_between, put_narrower, value_lt, value_alone, fits_same}
 use Rattle.cube.proofs.Codes.{untested_falls, literals_le}
@@ -28,7 +31,7 @@ use Rattle.cube.proofs.Theorems.{meanings, serves_at, serves_by}
 -- no cell is above 2, those past the end included, which are 0
 cell_lt : (t : List ℕ) → bad_cell t ≡ false → (c : ℕ) → cell t c < 3
 unfolding bad_cell
-cell_lt t e c = ⊎_elim inside past (lt_or_le c (length t))
+cell_lt t e c = ⊎_elim inside past (cases_lt c (length t))
   where
     above : ℕ → Bool
     above c = ltb 2 (cell t c)
@@ -162,11 +165,11 @@ module _ (n : ℕ) (t : List ℕ) where
       dashed k = eqb (digit k q) 2
 
       go : (b : Bool) → some n dashed ≡ b → ((p : ℕ) → n < cube_literals n p + fuel → p < 3 ^ n → T (implicant n t p) → Character n t p) → Character n t q
-      go false e ih = undashed_character q (λ k m x. subst T e (some_by n dashed k m (eqb_of (digit k q) 2 x))) l h
+      go false e ih = undashed_character q (λ k m x. subst T e (some_by n dashed k m (yes_eqb x))) l h
       go true e ih = dashed_character q k m d l (half 0 (lit< tt)) (half 1 (lit< tt))
         where
           found : (k : ℕ) × (k < n) × T (dashed k)
-          found = some_at n dashed (holds (some n dashed) e)
+          found = some_at n dashed (passes (some n dashed) e)
 
           k : ℕ
           k = found.0
@@ -191,7 +194,7 @@ module _ (n : ℕ) (t : List ℕ) where
       let d : ℕ = digit k q in
       let p : ℕ = put_digit k 2 q in
       let lp : p < 3 ^ n = put_lt n k 2 q m (lit< tt) l in
-      let ne : d ≡ 2 → ⊥ = λ e. not_e (eqb d 2) (and_l (tested d) (implicant n t p) h) (eqb_of d 2 e) in
+      let ne : d ≡ 2 → ⊥ = λ e. T_not (eqb d 2) (and_l (tested d) (implicant n t p) h) (yes_eqb e) in
       let own : q ≡ put_digit k d p = put_between n k q p m l lp (λ j i f. sym (put_other k j 2 q (lit< tt) f)) in
       let other : ℕ = put_digit k (1 - d) p in
       let io : T (implicant n t other) = half_implicant p k (1 - d) m (put_digit_lem k 2 q (lit< tt)) (omega arith) (and_r (tested d) (implicant n t p) h) in
@@ -211,7 +214,7 @@ module _ (n : ℕ) (t : List ℕ) where
       let o = character_is c.other_character in
       let e : c.new ≡ put_digit k 2 q = put_between n k c.new q g.inside g.below l g.others ∙ ap (λ (i : ℕ). put_digit k i q) g.dashed in
       let i : T (implicant n t (put_digit k 2 q)) = subst (λ (r : ℕ). T (implicant n t r)) e (combined_implicant q c.other c.new l o.0 h o.1 g) in
-      (k, g.inside, and_i (tested (digit k q)) (implicant n t (put_digit k 2 q)) (not_i (eqb (digit k q) 2) (λ x. g.first_undashed (eqb→eq (digit k q) 2 x))) i)
+      (k, g.inside, and_i (tested (digit k q)) (implicant n t (put_digit k 2 q)) (not_T (eqb (digit k q) 2) (λ x. g.first_undashed (eqb→eq (digit k q) 2 x))) i)
 
   -- ---- prime implicants
 

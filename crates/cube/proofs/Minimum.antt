@@ -9,10 +9,11 @@ use native.Mathlib.Nat.{eq-or-lt_of_le}
 use native.Mathlib.Omega.{arith}
 use lib.Dec.{T}
 use lib.ListN.{length, length-append}
+use Rattle.std.specs.Bool.{passes}
 use Rattle.numbers.specs.Below.{some}
 use Rattle.cube.specs.Words.{on_set, off_set, Row, Cover, row_matches, formed, each_row, all_formed, cover_matches, cover_literals, implements, row_of, number_of, implicant, wider, prime}
 use Rattle.cube.specs.Minimum.{NoBetter, Minimum, EquivalentSum, MinimumSum, Shortest}
-use Rattle.numbers.proofs.Bools.{and_l, and_r, and_i, or_e, or_l, or_r, holds}
+use Rattle.numbers.proofs.Bools.{and_l, and_r, and_i, or_e, or_l, or_r}
 use Rattle.numbers.proofs.Below.{some_at}
 use Rattle.cube.proofs.Digits.{contained_matches}
 use Rattle.cube.proofs.Implicants.{implicant_at, wider-implicant, wider_fewer, wider_contains}
@@ -120,7 +121,7 @@ module _ (n : ℕ) (t : List ℕ) where
     where
       go : (b : Bool) → some (3 ^ n) (wider n t (number_of n r)) ≡ b → T (implicant n t (number_of n r) && not (some (3 ^ n) (wider n t (number_of n r))))
       go true e =
-          let s = some_at (3 ^ n) (wider n t (number_of n r)) (holds _ e) in
+          let s = some_at (3 ^ n) (wider n t (number_of n r)) (passes _ e) in
           absurd (not_wider before after r s.0 s.1 m s.2)
       go false e =
           and_i (implicant n t (number_of n r)) (not (some (3 ^ n) (wider n t (number_of n r)))) i (subst⁻¹ (λ (b : Bool). T (not b)) e tt)

@@ -9,8 +9,9 @@ use native.Mathlib.Nat.{not-suc-le-zero, le_of_suc-le-suc, pow-suc}
 use native.Mathlib.Omega.{arith}
 use lib.Dec.{T, ltb, leb, le→leb}
 use lib.ListN.{length}
+use mir.Facts.{yes_eqb}
 use borrow.Author.Tests.{le-ltb}
-use Rattle.numbers.proofs.Bools.{and_i, or_r, eqb_of}
+use Rattle.numbers.proofs.Bools.{and_i, or_r}
 use Rattle.numbers.proofs.Below.{every_by, some_none, tabulate_at, tabulate-length}
 use Rattle.cube.specs.Words.{cell, on_set, ones, Cover, all_formed, implements, fits, digit, cube_matches, cube_literals, value_of, implicant}
 use Rattle.cube.specs.Calls.{bad_cell}
@@ -100,7 +101,7 @@ module _ (n : ℕ) where
   one_code : (q c d : ℕ) → T (implicant (suc n) t q) → c < 2 ^ suc n → d < 2 ^ suc n → T (cube_matches (suc n) q c) → T (cube_matches (suc n) q d) → c ≡ d
   one_code q c d i k l x y =
       ⊎_elim (λ all. value_alone (suc n) q all c k x ∙ sym (value_alone (suc n) q all d l y))
-      (λ both. let f = both 0 (omega arith) in absurd (implicant_at (suc n) t q i f.code f.below f.matched (eqb_of _ 0 (cell_is (suc n) f.code f.below ∙ f.remainder))))
+      (λ both. let f = both 0 (omega arith) in absurd (implicant_at (suc n) t q i f.code f.below f.matched (yes_eqb (cell_is (suc n) f.code f.below ∙ f.remainder))))
       (all_or_both (suc n) q)
 
   wanted_of : ℕ → ℕ
@@ -116,7 +117,7 @@ module _ (n : ℕ) where
 
   is_wanted : (i : ℕ) → i < 2 ^ n → T (on_set t (wanted_of i))
   unfolding wanted_of
-  is_wanted i l = eqb_of _ 1 (cell_is (suc n) (wanted_of i) (wanted_below i l) ∙ ap (λ (k : ℕ). k % 2) (ones_more n i (1 - ones n i % 2) (omega arith)) ∙ omega (arith, bit_lt (ones n i)))
+  is_wanted i l = yes_eqb (cell_is (suc n) (wanted_of i) (wanted_below i l) ∙ ap (λ (k : ℕ). k % 2) (ones_more n i (1 - ones n i % 2) (omega arith)) ∙ omega (arith, bit_lt (ones n i)))
 
   -- the wanted codes of the first pairs
   marks : ℕ → List Mark

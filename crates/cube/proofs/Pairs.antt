@@ -8,11 +8,12 @@ use Prim.Native.Nat.{ℕ, zero, suc, ◌+◌, ◌-◌, ◌*◌, ◌^◌, ◌/◌
 use native.Mathlib.Nat.{not-suc-le-zero, le_of_suc-le-suc, eq-or-lt_of_le, mod-eq_of_lt, pow-suc}
 use native.Mathlib.Omega.{arith}
 use lib.Bits.{bit_and, and_mask}
-use lib.Dec.{T, eqb, ltb, eqb→eq, eqb_refl, lt→ltb, lit<}
+use lib.Dec.{T, eqb, ltb, eqb→eq, eqb_refl, lt→ltb, lit<, T_not, not_T}
 use lib.ListN.{length}
 use lib.Pow.{pow_pos}
+use mir.Facts.{yes_eqb}
 use Rattle.cube.specs.Words.{on_set, off_set, Row, Cover, row_matches, formed, each_row, all_formed, cover_matches, implements, fits, row_of, number_of}
-use Rattle.numbers.proofs.Bools.{and_l, and_r, and_i, or_e, or_l, or_r, not_e, not_i, eqb_of}
+use Rattle.numbers.proofs.Bools.{and_l, and_r, and_i, or_e, or_l, or_r}
 use Rattle.cube.proofs.Digits.{bit_lt, matches_at}
 use Rattle.cube.proofs.Rows.{cube_lt, row_is_cube, row_formed, row_of_matches}
 use Rattle.cube.proofs.Theorems.{not_barred, implements_by}
@@ -24,7 +25,7 @@ none_matches : (rs : Cover) (c : ℕ) → T (each_row (λ r. not (row_matches r 
 unfolding each_row cover_matches
 none_matches [] c e h = h
 none_matches (r ∷ rs) c e h =
-    ⊎_elim (not_e (row_matches r c) (and_l (not (row_matches r c)) (each_row (λ r. not (row_matches r c)) rs) e))
+    ⊎_elim (T_not (row_matches r c) (and_l (not (row_matches r c)) (each_row (λ r. not (row_matches r c)) rs) e))
     (none_matches rs c (and_r (not (row_matches r c)) (each_row (λ r. not (row_matches r c)) rs) e)) (or_e (row_matches r c) (cover_matches rs c) h)
 
 module _ (row : ℕ → Row) (f : ℕ → Bool) where
@@ -70,7 +71,7 @@ module _ (row : ℕ → Row) (f : ℕ → Bool) where
       → ((i c : ℕ) → i < m → c < 2 ^ n → T (f i) → T (off_set t c) → T (row_matches (row i) c) → ⊥) → T (implements n t (rows_below m))
   below_right n t m on off =
       implements_by n t (rows_below m) (λ c k w. let r = on c k w in below_matches m r.0 c r.1 r.2 r.3) λ c k b.
-      none_matches (rows_below m) c (below_each (λ r. not (row_matches r c)) m (λ i l p. not_i (row_matches (row i) c) (off i c l k p b)))
+      none_matches (rows_below m) c (below_each (λ r. not (row_matches r c)) m (λ i l p. not_T (row_matches (row i) c) (off i c l k p b)))
 
 -- ---- one code
 
@@ -84,7 +85,7 @@ masked n c l = and_mask c n ∙ mod-eq_of_lt l
 single_formed : (n c : ℕ) → c < 2 ^ n → T (formed n (single n c))
 unfolding formed
 single_formed n c l =
-    and_i (ltb (2 ^ n - 1) (2 ^ n)) (eqb (bit_and c (2 ^ n - 1)) c) (lt→ltb (2 ^ n - 1) (2 ^ n) (omega (arith, pow_pos n))) (eqb_of _ c (masked n c l))
+    and_i (ltb (2 ^ n - 1) (2 ^ n)) (eqb (bit_and c (2 ^ n - 1)) c) (lt→ltb (2 ^ n - 1) (2 ^ n) (omega (arith, pow_pos n))) (yes_eqb (masked n c l))
 
 single_matches : (n c d : ℕ) → d < 2 ^ n → row_matches (single n c) d ≡ eqb d c
 unfolding row_matches

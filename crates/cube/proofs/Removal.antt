@@ -8,10 +8,10 @@ use Prim.Native.Nat.{ℕ, ◌≤◌}
 use native.Mathlib.Omega.{arith}
 use lib.Dec.{T}
 use lib.ListN.{length}
+use Rattle.std.specs.Bool.{passes}
 use Rattle.numbers.specs.Below.{among}
 use Rattle.cube.specs.Words.{serves}
 use Rattle.cube.specs.McCluskey.{PrimeImplicant, Column, cross, CrossedRow, SingleAsterisk, Selection, BasisRows, SingleAsteriskLeft, SelectionLeft, BasisRowsLeft, Removal}
-use Rattle.numbers.proofs.Bools.{holds}
 use Rattle.numbers.proofs.Kept.{kept, kept_in, kept_has, kept_most, kept_fewer}
 use Rattle.cube.proofs.Theorems.{serves_by}
 use Rattle.cube.proofs.McCluskey.{agreement, crossed_by}
@@ -67,7 +67,7 @@ module _ (n : ℕ) (t : List ℕ) where
     all_left l q a = go (serves n t q) refl
       where
         go : (b : Bool) → serves n t q ≡ b → CrossedRow n t q
-        go true e = crossed_by n t q (s.rows q a) (holds (serves n t q) e)
+        go true e = crossed_by n t q (s.rows q a) (passes (serves n t q) e)
         go false e = absurd (omega (arith, kept_fewer (serves n t) selected q a (λ x. subst T e x)))
 
   basis_to : (selected : List ℕ) → BasisRows n t selected → BasisRowsLeft n t selected

@@ -8,11 +8,12 @@ use native.Mathlib.Nat.{not-suc-le-zero, le_of_suc-le-suc, pow-suc}
 use native.Mathlib.Omega.{arith}
 use lib.Dec.{T, eqb, ltb, eqb→eq, ltb→lt, lt→ltb, lit<}
 use lib.Bits.{bit_and, and_step, and_zero_r}
+use mir.Facts.{yes_eqb}
 use borrow.Author.Tests.{eq-eqb, ne_eqb}
 use Rattle.numbers.specs.Below.{flag}
 use Rattle.cube.specs.Words.{Row, row_matches, formed, ones, row_literals, fits, tested, digit, cube_matches, cube_literals, value_of, care_of, row_of, digit_of, cube_of, number_of}
 use Rattle.cube.specs.Theorems.{OneToOne}
-use Rattle.numbers.proofs.Bools.{and_l, and_r, and_i, same, eqb_of}
+use Rattle.numbers.proofs.Bools.{and_l, and_r, and_i, same}
 use Rattle.cube.proofs.Digits.{bit, last_lt, bit_lt, is_tested, last_digit_lem, rest_digits, last_bit, rest_bits, matches_at, literals_at}
 use Rattle.numbers.proofs.Below.{flag_lt}
 use Rattle.cube.proofs.Spelling.{care_lt}
@@ -69,7 +70,7 @@ bit-agrees v (suc zero) c a b l =
     let mine : min c 1 ≡ c = omega arith in
     let its : min v 1 ≡ v = omega arith in
     ap (λ (t : Bool). t || eqb v c) (ne_eqb v 2 (λ e. omega arith))
-    ∙ same (eqb v c) (eqb c v) (λ h. eqb_of c v (sym (eqb→eq v c h))) (λ h. eqb_of v c (sym (eqb→eq c v h))) ∙ sym (ap₂ eqb mine its)
+    ∙ same (eqb v c) (eqb c v) (λ h. yes_eqb (sym (eqb→eq v c h))) (λ h. yes_eqb (sym (eqb→eq c v h))) ∙ sym (ap₂ eqb mine its)
 bit-agrees v (suc (suc w)) c a b l = absurd (omega arith)
 
 -- two sums of a double and a bit are equal exactly when the parts are
@@ -77,12 +78,12 @@ parts_equal : (x y a b : ℕ) → a < 2 → b < 2 → (eqb a b && eqb x y) ≡ e
 parts_equal x y a b l m = same (eqb a b && eqb x y) (eqb (x * 2 + a) (y * 2 + b)) to from
   where
     to : T (eqb a b && eqb x y) → T (eqb (x * 2 + a) (y * 2 + b))
-    to h = eqb_of (x * 2 + a) (y * 2 + b) (omega (arith, eqb→eq a b (and_l (eqb a b) (eqb x y) h), eqb→eq x y (and_r (eqb a b) (eqb x y) h)))
+    to h = yes_eqb (omega (arith, eqb→eq a b (and_l (eqb a b) (eqb x y) h), eqb→eq x y (and_r (eqb a b) (eqb x y) h)))
 
     from : T (eqb (x * 2 + a) (y * 2 + b)) → T (eqb a b && eqb x y)
     from h =
         let e : x * 2 + a ≡ y * 2 + b = eqb→eq (x * 2 + a) (y * 2 + b) h in
-        and_i (eqb a b) (eqb x y) (eqb_of a b (omega arith)) (eqb_of x y (omega arith))
+        and_i (eqb a b) (eqb x y) (yes_eqb (omega arith)) (yes_eqb (omega arith))
 
 pub agrees_is_cube : (n v w c : ℕ) → w < 2 ^ n → cube_matches n (cube_of n v w) c ≡ eqb (bit_and c w) (bit_and v w)
 unfolding cube_matches rest_cube its_digit
@@ -209,7 +210,7 @@ spelled_inside (suc n) q =
 pub row_formed : (n q : ℕ) → T (formed n (row_of n q))
 unfolding formed
 row_formed n q =
-    and_i (ltb (care_of n q) (2 ^ n)) (eqb (bit_and (value_of n q) (care_of n q)) (value_of n q)) (lt→ltb _ _ (care_lt n q)) (eqb_of _ _ (spelled_inside n q))
+    and_i (ltb (care_of n q) (2 ^ n)) (eqb (bit_and (value_of n q) (care_of n q)) (value_of n q)) (lt→ltb _ _ (care_lt n q)) (yes_eqb (spelled_inside n q))
 
 pub number_of_row : (n q : ℕ) → q < 3 ^ n → number_of n (row_of n q) ≡ q
 unfolding cube_of

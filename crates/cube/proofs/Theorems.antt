@@ -6,11 +6,13 @@ use mathlib.Core.Bool.{Bool, not, ◌&&◌, ◌||◌}
 use mathlib.Core.List.{List}
 use Prim.Native.Nat.{ℕ, ◌^◌, ◌<◌}
 use native.Mathlib.Omega.{arith}
-use lib.Dec.{T, eqb, ltb, eqb→eq, lt→ltb}
+use lib.Dec.{T, eqb, ltb, eqb→eq, lt→ltb, T_not, not_T}
+use mir.Facts.{yes_eqb}
+use Rattle.std.proofs.lemmas.Bool.{cases_eq}
 use Rattle.numbers.specs.Below.{some}
 use Rattle.cube.specs.Words.{cell, on_set, off_set, Cover, cover_matches, asked, implements, cube_matches, cube_literals, implicant, within, wider, prime, alone, essential, column, serves}
 use Rattle.cube.specs.Theorems.{Meanings}
-use Rattle.numbers.proofs.Bools.{and_l, and_r, and_i, imp_e, imp_i, nand_e, nand_i, not_e, not_i, eqb_of, eq_or_ne}
+use Rattle.numbers.proofs.Bools.{and_l, and_r, and_i, imp_e, imp_i, nand_e, nand_i}
 use Rattle.numbers.proofs.Below.{every_at, every_by, some_at, some_by, none_at, none_by}
 use Rattle.cube.proofs.Digits.{matches_contained}
 use Rattle.cube.proofs.Implicants.{implicant_at, implicant_by, within_at, contained_within, wider-implicant, wider_fewer, wider_contains, prime-implicant}
@@ -65,7 +67,7 @@ module _ (n : ℕ) (t : List ℕ) where
         only : (p : ℕ) → p < 3 ^ n → T (prime n t p) → T (cube_matches n p c) → p ≡ q
         only p l a b = ⊎_elim (λ e. e) (λ ne. absurd
             (none_at (3 ^ n) (others c) (and_r (cube_matches n q c) (not (some (3 ^ n) (others c))) h) p l
-            (and_i (prime n t p && cube_matches n p c) (not (eqb p q)) (and_i (prime n t p) (cube_matches n p c) a b) (not_i (eqb p q) (λ x. ne (eqb→eq p q x)))))) (eq_or_ne p q)
+            (and_i (prime n t p && cube_matches n p c) (not (eqb p q)) (and_i (prime n t p) (cube_matches n p c) a b) (not_T (eqb p q) (λ x. ne (eqb→eq p q x)))))) (cases_eq p q)
 
     pub alone_by : (c : ℕ) → T (cube_matches n q c) → ((p : ℕ) → p < 3 ^ n → T (prime n t p) → T (cube_matches n p c) → p ≡ q) → T (alone n t q c)
     unfolding alone others
@@ -73,8 +75,8 @@ module _ (n : ℕ) (t : List ℕ) where
         and_i (cube_matches n q c) (not (some (3 ^ n) (others c))) m
         (none_by (3 ^ n) (others c) λ p l x.
         let both = and_l (prime n t p && cube_matches n p c) (not (eqb p q)) x in
-        not_e (eqb p q) (and_r (prime n t p && cube_matches n p c) (not (eqb p q)) x)
-        (eqb_of p q (f p l (and_l (prime n t p) (cube_matches n p c) both) (and_r (prime n t p) (cube_matches n p c) both))))
+        T_not (eqb p q) (and_r (prime n t p && cube_matches n p c) (not (eqb p q)) x)
+        (yes_eqb (f p l (and_l (prime n t p) (cube_matches n p c) both) (and_r (prime n t p) (cube_matches n p c) both))))
 
     sole : ℕ → Bool
     sole c = on_set t c && alone n t q c

@@ -15,11 +15,11 @@ pub struct Row {
     pub care: u8,
 }
 
-// Why a call refuses what it is given, in the order of the numbers.
+// Why a call refuses what it is given, with the numbers in order. It has no `Display`: a number is all that the papers print, and `number` gives it.
 #[derive(Clone, Copy, PartialEq, Eq)]
 pub enum Refusal {
     // The width is not 1 to 6.
-    Width,
+    Width = 1,
     // The table does not have 2^n cells.
     TableLength,
     // A cell is above 2.
@@ -43,10 +43,10 @@ pub enum Refusal {
 impl Refusal {
     ghost use Rattle.cube.specs.Calls.{refusal_number};
 
-    // The number of the refusal, from 1 on.
+    // The number of the refusal.
     pub fn number(self) -> u8
         ensures { result ≡ refusal_number self }
     {
-        self as u8 + 1
+        self as u8
     }
 }

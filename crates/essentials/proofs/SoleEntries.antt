@@ -1,20 +1,19 @@
 -- Counting the entries of a column by two words: which columns were met once, which twice. A prime that holds the sole entry of a column is a
 -- single asterisk row of McCluskey's table, so it is essential. Assumes nothing.
-use mathlib.Core.Path.{◌≡◌, refl, sym, ap, ap₂, ◌∙◌, subst⁻¹}
-use mathlib.Core.Bool.{Bool, true, false, cond, not, ◌&&◌, ◌||◌}
+use mathlib.Core.Path.{◌≡◌, refl, sym, ap, ap₂, ◌∙◌}
+use mathlib.Core.Bool.{Bool, true, false, cond, ◌&&◌, ◌||◌}
 use mathlib.Core.List.{List}
 use Prim.Native.Nat.{ℕ, zero, suc, ◌+◌, ◌^◌, ◌<◌}
 use native.Mathlib.Numerals.{add-one}
 use native.Mathlib.Omega.{arith}
-use native.Mathlib.Decide.{ℕ_discrete}
 use lib.Dec.{T, eqb, leb, ltb, eqb→eq, ltb→lt, lt→ltb}
-use lib.ListN.{length, get_or, set}
-use lib.Seq.{get_or-set_same, get_or-set_other}
-use borrow.Author.Tests.{le-leb, eq-eqb, ne_eqb}
+use lib.ListN.{length, get_or}
+use borrow.Author.Tests.{le-leb, eq-eqb}
+use Rattle.std.specs.Bool.{passes}
 use Rattle.numbers.specs.Below.{flag, tabulate}
 use Rattle.cube.specs.Words.{on_set, cube_matches, prime, essential, primes_of, column}
 use Rattle.cube.specs.McCluskey as mccluskey
-use Rattle.numbers.proofs.Bools.{and_l, and_r, and_i, is_true, is_false, holds}
+use Rattle.numbers.proofs.Bools.{and_l, and_r, and_i, is_true, is_false}
 use Rattle.numbers.proofs.Below.{count_none, count_suc, count-those, those_same, tabulate_at}
 use Rattle.cube.proofs.McCluskey.{agreement}
 use Rattle.matrix.specs.Sets.{has, In, Meeting}
@@ -22,7 +21,7 @@ use Rattle.matrix.proofs.Bits.{has_zero}
 use Rattle.chart_arrays.specs.Columns.{columns_of}
 use Rattle.chart_arrays.proofs.Columns.{bit-has}
 use Rattle.chart_arrays.proofs.Theorems.{word_tells}
-use Rattle.essentials.specs.Steps.{prime_word, entries, Seen, SoleColumns, HolderMarks}
+use Rattle.essentials.specs.Steps.{prime_word, entries, Seen, SoleColumns}
 
 -- ---- once and twice
 
@@ -38,13 +37,6 @@ two_more (suc zero) true = refl
 two_more (suc zero) false = refl
 two_more (suc (suc k)) b =
     ap (λ (x : Bool). x || (leb 1 (suc (suc k)) && b)) (le-leb 2 (suc (suc k)) (omega arith)) ∙ sym (le-leb 2 (suc (suc k) + flag b) (omega arith))
-
-just_one : (k : ℕ) → (leb 1 k && not (leb 2 k)) ≡ eqb k 1
-just_one zero = refl
-just_one (suc zero) = refl
-just_one (suc (suc k)) =
-    ap₂ (λ (x y : Bool). x && not y) (le-leb 1 (suc (suc k)) (omega arith)) (le-leb 2 (suc (suc k)) (omega arith))
-    ∙ sym (ne_eqb (suc (suc k)) 1 (λ e. omega arith))
 
 pub seen_none : (words : List ℕ) (once twice : ℕ) → ((c : ℕ) → has once c ≡ false) → ((c : ℕ) → has twice c ≡ false) → Seen words 0 once twice
 seen_none words once twice f g = record {
@@ -66,22 +58,6 @@ module _ (words : List ℕ) (m word once twice once' twice' : ℕ) (is : get_or 
         g c ∙ ap₂ (λ (x y : Bool). x || (y && has word c)) (s.two c) (s.one c) ∙ two_more (entries words m c) (has word c)
         ∙ sym (ap (leb 2) (entries_more c));
   }
-
-pub sole_of : (words : List ℕ) (m once twice sole : ℕ) → Seen words m once twice → ((c : ℕ) → has sole c ≡ (has once c && not (has twice c)))
-    → SoleColumns words m sole
-sole_of words m once twice sole s f c = f c ∙ ap₂ (λ (x y : Bool). x && not y) (s.one c) (s.two c) ∙ just_one (entries words m c)
-
--- ---- the mark of one word more
-
-pub holders_more : (words : List ℕ) (sole : ℕ) (marks : List Bool) (q : ℕ) (b : Bool) → q < length marks → HolderMarks words sole marks q → Meeting (get_or words q 0) sole b
-    → HolderMarks words sole (set marks q b) (q + 1)
-holders_more words sole marks q b l h m k n = go (ℕ_discrete k q)
-  where
-    go : Dec (k ≡ q) → Meeting (get_or words k 0) sole (get_or (set marks q b) k false)
-    go (yes d) =
-        subst⁻¹ (λ (i : ℕ). Meeting (get_or words i 0) sole (get_or (set marks q b) i false)) d
-        (subst⁻¹ (Meeting (get_or words q 0) sole) (get_or-set_same marks q b false l) m)
-    go (no d) = subst⁻¹ (Meeting (get_or words k 0) sole) (get_or-set_other marks q k b false d) (h k (omega arith))
 
 -- ---- a prime with a sole entry is essential
 
@@ -109,12 +85,12 @@ module _ (n : ℕ) (t words : List ℕ) (sole : ℕ) (p : words ≡ tabulate (3 
     to : (c : ℕ) × In (get_or words q 0) c × In sole c → T (essential n t q)
     to r =
         let c = r.0 in
-        let entry = holds (prime n t q && (ltb c (2 ^ n) && column n t q c)) (sym (has-prime q c l) ∙ r.1) in
+        let entry = passes (prime n t q && (ltb c (2 ^ n) && column n t q c)) (sym (has-prime q c l) ∙ r.1) in
         let inside = and_r (prime n t q) (ltb c (2 ^ n) && column n t q c) entry in
         let below : c < 2 ^ n = ltb→lt c (2 ^ n) (and_l (ltb c (2 ^ n)) (column n t q c) inside) in
         let wanted = and_l (on_set t c) (cube_matches n q c) (and_r (ltb c (2 ^ n)) (column n t q c) inside) in
         let matched = and_r (on_set t c) (cube_matches n q c) (and_r (ltb c (2 ^ n)) (column n t q c) inside) in
-        let one = eqb→eq (entries words (3 ^ n) c) 1 (holds (eqb (entries words (3 ^ n) c) 1) (sym (s c) ∙ r.2)) in
+        let one = eqb→eq (entries words (3 ^ n) c) 1 (passes (eqb (entries words (3 ^ n) c) 1) (sym (s c) ∙ r.2)) in
         let row = ((agreement n t).primes q l).0 (and_l (prime n t q) (ltb c (2 ^ n) && column n t q c) entry) in
         ((agreement n t).essentials q l).1 (record {
           row = row;

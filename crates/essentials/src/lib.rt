@@ -57,7 +57,7 @@ fn sole_columns(words: &[columns::Set]) -> columns::Set
     seen.once - seen.twice
 }
 
-// Marks the words that have one of the columns.
+// Marks the words that have one of the columns. They are indexed: behind a `zip` of marks and words nothing is known of what was written.
 fn mark_holders(words: &[columns::Set], sole: columns::Set, marks: &mut [bool])
     requires { length words.now ≤ length marks.old }
     ensures { HolderMarks words.now sole marks.new (length words.now) }
@@ -78,7 +78,8 @@ fn mark_essentials(table: Table, marks: &mut [bool])
     mark_holders(words.as_slice(), sole, marks);
 }
 
-// Lists the essential primes of a table, ascending, and returns their number.
+// Lists the essential primes of a table, ascending, and returns their number. Not one function with `primes::list_serving_primes`: it would take the marking as
+// a closure, with what that promises beside it, and a call of it would be as long as these lines.
 fn list_essentials(table: Table, out: &mut [u16]) -> usize
     requires { 3 ^ table.width ≤ length out.old }
     ensures { Puts (essentials_of table.entry.width table.entry.cells.now) out.old 0 out.new result }

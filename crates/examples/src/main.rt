@@ -14,8 +14,8 @@ fn main(rt: HostRuntime) {
 
 // Prints each example; where a write fails, the rest is left out.
 fn print_all(rt: &impl Print) -> io::Result<()> {
-    for (name, width, table) in &EXAMPLES {
-        terms::example(rt, name, *width, table)?;
+    for (name, text) in &EXAMPLES {
+        terms::example(rt, name, text)?;
     }
     Ok(())
 }

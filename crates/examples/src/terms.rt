@@ -2,21 +2,12 @@
 ghost use Rattle.std.specs.Prelude.{◌≤◌, IfOk, length};
 ghost use Rattle.cube.specs.Calls.{widest};
 
-use arrayvec::ArrayVec;
 use cube::Refusal;
-use spelling::{MOST_CODE_PAIRS, MOST_CODES, MOST_CUBES};
+use spelling::{MOST_CODE_PAIRS, MOST_CUBES};
 use std::{fmt, io};
+use text::input::{Reader, Text};
 
-// The cell that a character of a table stands for.
-fn cell_of(character: u8) -> u8 {
-    match character {
-        b'0' => 0,
-        b'1' => 1,
-        _ => 2,
-    }
-}
-
-// A cube of this many digits.
+// A cube of this many digits. It is no `spelling::Cube`: that what a call has listed is below 3^width is not known here without a proof of its own.
 #[derive(Clone, Copy)]
 struct Term {
     width: usize,
@@ -37,7 +28,12 @@ impl fmt::Display for Term {
     }
 }
 
-// The terms that a call has listed, or its refusal.
+// A refusal, by its number.
+fn report_refusal(rt: &impl Print, refusal: Refusal) -> io::Result<()> {
+    println!(rt; "refused {}", refusal.number())
+}
+
+// The terms that a call has listed, or its refusal. The answer stands beside the places, as the calls give them.
 fn report(
     rt: &impl Print,
     title: &str,
@@ -60,7 +56,7 @@ fn report(
             }
             println!(rt; "")
         }
-        Err(refusal) => println!(rt; "refused {}", refusal.number()),
+        Err(refusal) => report_refusal(rt, refusal),
     }
 }
 
@@ -71,21 +67,30 @@ fn report_plan(rt: &impl Print, width: usize, table: &[u8]) -> io::Result<()> {
     print!(rt; "  plan ")?;
     match plan::plan(width, table, &mut values, &mut cares) {
         Ok(totals) => println!(rt; "rows {} bits {}", totals.rows, totals.bits),
-        Err(refusal) => println!(rt; "refused {}", refusal.number()),
+        Err(refusal) => report_refusal(rt, refusal),
     }
 }
 
-// What the calls answer for a table written as a run of 0, 1 and -. What is longer than the widest table is cut off; no example is.
-pub fn example(rt: &impl Print, name: &str, width: usize, text: &str) -> io::Result<()> {
-    println!(rt; "{name}")?;
-    let mut table = ArrayVec::<u8, MOST_CODES>::new();
-    for character in text.bytes() {
-        let _ = table.try_push(cell_of(character));
-    }
+// What the calls answer for a table.
+fn report_table(rt: &impl Print, width: usize, table: &[u8]) -> io::Result<()> {
     let mut places = [0u16; MOST_CUBES];
-    let primes = primes::primes(width, &table, &mut places);
+    let primes = primes::primes(width, table, &mut places);
     report(rt, "primes", width, primes, &places)?;
-    let essentials = essentials::essentials(width, &table, &mut places);
+    let essentials = essentials::essentials(width, table, &mut places);
     report(rt, "essentials", width, essentials, &places)?;
-    report_plan(rt, width, &table)
+    report_plan(rt, width, table)
+}
+
+// What the calls answer for the table of a text.
+pub fn example(rt: &impl Print, name: &str, text: &str) -> io::Result<()> {
+    println!(rt; "{name}")?;
+    let mut reader = Reader::new();
+    reader.feed(text.as_bytes());
+    match reader.text() {
+        Ok(Text { width, cells }) => report_table(rt, width, cells),
+        Err(refusal) => {
+            print!(rt; "  ")?;
+            report_refusal(rt, refusal)
+        }
+    }
 }

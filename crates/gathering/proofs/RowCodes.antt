@@ -8,12 +8,14 @@ use native.Mathlib.Nat.{div-eq_of_lt, add-div_right, add-mod_right, mod-eq_of_lt
 use native.Mathlib.Omega.{arith}
 use native.Mathlib.Decide.{ℕ_discrete, dec_lt}
 use lib.Dec.{T, eqb, ltb, leb, eqb→eq, lt→ltb, leb→le, le→leb}
-use lib.Pow.{pow_pos, split, shr-shr, mod-pow-add, field, mod-mod-pow}
+use lib.Pow.{pow_pos, pow-lt, split, shr-shr, mod-pow-add, field, mod-mod-pow}
 use lib.Bits.{bit_and, and_mod, and_le_r}
+use mir.Facts.{yes_eqb}
 use borrow.Author.Tests.{eq-eqb, ne_eqb}
 use Rattle.cube.specs.Words.{row_matches}
+use Rattle.cube.specs.Calls.{widest}
 use Rattle.matrix.specs.Sets.{column_limit, has_bit, ColumnSet, has, has_raised}
-use Rattle.numbers.proofs.Bools.{and_l, and_r, and_i, or_e, or_l, or_r, same, is_false, eqb_of}
+use Rattle.numbers.proofs.Bools.{and_l, and_r, and_i, or_e, or_l, or_r, same, is_false}
 use Rattle.cube.proofs.Rows.{Formed}
 use Rattle.matrix.proofs.Bits.{digit_and}
 use Rattle.gathering.specs.Gathered.{HoldsExactly}
@@ -22,6 +24,10 @@ use Rattle.gathering.specs.Gathered.{HoldsExactly}
 raised_below : (x w k : ℕ) → bit_and (x + 2 ^ k) w % 2 ^ k ≡ bit_and x w % 2 ^ k
 raised_below x w k =
     and_mod (x + 2 ^ k) w k ∙ ap (λ (y : ℕ). bit_and y (w % 2 ^ k)) (add-mod_right x (2 ^ k)) ∙ sym (and_mod x w k)
+
+-- the weight of a bit is one of the places of a word
+pub weight_most : (k : ℕ) → k < widest → 2 ^ k < 64
+weight_most k l = pow-lt l
 
 -- what is 0 above bit n is below 2^n
 below_pow : (x n : ℕ) → x / 2 ^ n ≡ 0 → x < 2 ^ n
@@ -192,7 +198,7 @@ module _ (v w : ℕ) where
     unfolding row_matches
     row_exactly set is = record {
       codes = λ c l.
-          same (has set c) (eqb (bit_and c w) v) (λ h. eqb_of (bit_and c w) v (matches_of c ((is c).0 h)))
+          same (has set c) (eqb (bit_and c w) v) (λ h. yes_eqb (matches_of c ((is c).0 h)))
           (λ h. (is c).1 (agrees_of c l (eqb→eq (bit_and c w) v h)));
       no_other = λ c l. is_false (has set c) (λ h. let b = agrees_code n c (omega arith) ((is c).0 h) in omega arith);
     }

@@ -16,6 +16,7 @@ use matrix::columns;
 use matrix::words::Word;
 
 // The codes so far and, if a bit is not tested, each of them raised by the weight of that bit.
+#[tactic(auto, using(crate::proofs::RowCodes::weight_most))]
 fn with_bit(care: u8, bit: usize, matched: columns::Set) -> columns::Set
     requires { bit < widest }
     ensures { (c : ℕ) → has result c ≡ (has matched c || (not (has_bit care bit) && has_raised matched (2 ^ bit) c)) }
@@ -31,7 +32,7 @@ fn row_codes(n: usize, row: Row) -> columns::Set
     requires { (n ≤ widest) × (formed n row ≡ true) }
     ensures { HoldsExactly n (row_matches row) result }
 {
-    let mut matched = columns::Set::only(row.value as usize);
+    let mut matched = columns::Set::only(usize::from(row.value));
     for bit in 0..n {
         matched = with_bit(row.care, bit, matched);
     }
@@ -39,17 +40,16 @@ fn row_codes(n: usize, row: Row) -> columns::Set
 }
 
 // Gathers the codes that any row matches. Each row is looked at once: its form is tested, and its codes are added.
-pub fn gather(n: usize, rows: Rows<'_>) -> Result<columns::Set, Refusal>
+pub fn gather(n: usize, rows: Rows) -> Result<columns::Set, Refusal>
     requires { n ≤ widest }
     ensures { Gathers n (rows_of rows.entry.values.now rows.entry.cares.now) result }
 {
     let mut matched = columns::NONE;
-    for (&value, &care) in rows.values.iter().zip(rows.cares) {
-        let row = Row { value, care };
+    for row in rows {
         if !lists::is_formed(n, row) {
             return Err(Refusal::UnformedRow);
         }
-        matched = matched | row_codes(n, row);
+        matched |= row_codes(n, row);
     }
     Ok(matched)
 }

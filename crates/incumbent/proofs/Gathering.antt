@@ -4,9 +4,10 @@ use Rattle.std.proofs.Common.{◌≡◌, ℕ, ◌+◌, ◌<◌, ◌≤◌, Bool,
 use native.Mathlib.Decide.{dec_lt}
 use lib.ListN.{get_or-eq_default}
 use Rattle.std.specs.Prelude.{Option, None, Some, IfNone}
+use Rattle.std.proofs.lemmas.Bool.{or_left, or_right}
 use Rattle.covering.specs.Sum.{if_set, sum}
 use Rattle.covering.specs.Weighted.{set_size}
-use Rattle.numbers.proofs.Flags.{clash, either_of, left_of, right_of, kept_of_lem, kept_or}
+use Rattle.numbers.proofs.Flags.{clash, either_of, kept_of_lem, kept_or}
 use Rattle.covering.proofs.Sums.{sum_same, sum_skip, sum_with, if_set_false, if_set_le}
 use Rattle.matrix.specs.Sets.{ColumnSet, RowSet, row_limit, has, In, member, Member}
 use Rattle.matrix.specs.Matrix.{row_count, covered, weight_of, weight_limit}
@@ -40,11 +41,11 @@ module _ (words weights : List ℕ) where
       → ((j : ℕ) → member t.rows j ≡ (eqb j i || member g.rows j)) → ((c : ℕ) → has t.columns c ≡ (has g.columns c || has (covered words i) c))
       → t.weight ≡ g.weight + w → Counted words weights g → Counted words weights t
   counted_more i w g t l out d k e f v h = record {
-    covered = λ c y. ⊎_elim (λ m. let r = h.covered c m in (r.0, right_of (eqb r.0 i) (member g.rows r.0) (e r.0) r.1, r.2))
-        (λ m. (i, left_of (eqb i i) (member g.rows i) (e i) (eq-eqb i i refl), m))
+    covered = λ c y. ⊎_elim (λ m. let r = h.covered c m in (r.0, e r.0 ∙ or_right _ _ r.1, r.2))
+        (λ m. (i, e i ∙ or_left _ _ (eq-eqb i i refl), m))
         (either_of (has g.columns c) (has (covered words i) c) (sym (f c) ∙ y));
-    covers = λ j c m y. ⊎_elim (λ z. right_of (has g.columns c) (has (covered words i) c) (f c) (subst (λ (x : ℕ). has (covered words x) c ≡ true) (eqb-true j i z) y))
-        (λ n. left_of (has g.columns c) (has (covered words i) c) (f c) (h.covers j c n y)) (either_of (eqb j i) (member g.rows j) (sym (e j) ∙ m));
+    covers = λ j c m y. ⊎_elim (λ z. f c ∙ or_right _ _ (subst (λ (x : ℕ). has (covered words x) c ≡ true) (eqb-true j i z) y))
+        (λ n. f c ∙ or_left _ _ (h.covers j c n y)) (either_of (eqb j i) (member g.rows j) (sym (e j) ∙ m));
     weighs = omega (arith, sum_with row_limit i (weight_of weights) (member g.rows) (member t.rows) l out e, h.weighs);
     small = omega (arith, sum_with row_limit i (λ j. 1) (member g.rows) (member t.rows) l out e, h.small);
   }

@@ -1,6 +1,6 @@
 -- A cover that need not be lightest, and whose weight is a limit of the search: a cover of the undecided columns by live rows, of the weight told, which is
 -- below the limit. Definitions only. Assumes nothing.
-use Rattle.std.specs.Prelude.{ℕ, ◌*◌, ◌<◌, List}
+use Rattle.std.specs.Prelude.{ℕ, ◌*◌, ◌<◌, List, Option, Some, None}
 use Rattle.covering.specs.Weighted.{SetCovers}
 use Rattle.matrix.specs.Sets.{ColumnSet, RowSet, row_limit, In, member, Member}
 use Rattle.matrix.specs.Matrix.{CoversColumn, weight_of, weight_limit}
@@ -14,6 +14,11 @@ IsCover words weights live u picked k = SetCovers (CoversColumn words) (weight_o
 pub record Incumbent (words weights : List ℕ) (live : RowSet) (u : ColumnSet) (limit : ℕ) (c : Cover) : Type 0 where
   pub below : c.weight < limit
   pub cover : IsCover words weights live u c.rows c.weight
+
+-- what a cover weighs, or the limit where there is none
+abbrev pub weight_or : ℕ → Option Cover → ℕ
+weight_or limit None = limit
+weight_or limit (Some c) = c.weight
 
 -- all rows together weigh less than this
 abbrev pub above_all : ℕ

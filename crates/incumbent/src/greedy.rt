@@ -1,13 +1,12 @@
 // A greedy cover: rows are taken one by one, and each is the cheapest for the columns that it covers first.
 ghost use Rattle.std.specs.Prelude.{◌<◌, ◌≤◌, IfSome, IfNone};
-ghost use Rattle.matrix.specs.Sets.{column_limit};
-ghost use Rattle.matrix.specs.Matrix.{row_count, weight_limit};
+ghost use Rattle.matrix.specs.Matrix.{row_count};
 ghost use Rattle.incumbent.specs.Incumbent.{above_all, Incumbent, Uncovered};
 
 use crate::{Cover, Gathered};
 use matrix::{Matrix, Subproblem, columns};
 
-// Whether the row i covers more of the open columns for its weight than the row j.
+// Whether the row i covers more of the open columns for its weight than the row j: by products, since a quotient of whole numbers would be rounded.
 fn cheaper(matrix: Matrix, open: columns::Set, i: usize, j: usize) -> bool
     requires { (i < row_count matrix.words.now) × (j < row_count matrix.words.now) }
 {
@@ -24,6 +23,7 @@ pub fn cover(problem: &Subproblem, limit: u64) -> Option<Cover>
 {
     let matrix = problem.matrix;
     let mut taken = Gathered::none();
+    // Nothing counts the rows: they are taken until no column is open.
     loop {
         let open = problem.undecided - taken.columns;
         if open.is_empty() {

@@ -7,7 +7,7 @@
 ghost use Rattle.std.specs.Prelude.{◌≡◌, false, List, ℕ, ◌<◌, ◌≤◌, ◌||◌, eqb, IfSome, IfNone};
 ghost use Rattle.matrix.specs.Matrix.{row_count};
 ghost use Rattle.matrix.specs.Sets.{In, member, Member};
-ghost use Rattle.incumbent.specs.Incumbent.{IsCover, Incumbent};
+ghost use Rattle.incumbent.specs.Incumbent.{weight_or, IsCover, Incumbent};
 ghost use Rattle.incumbent.specs.Steps.{Counted};
 
 use matrix::{Matrix, Subproblem, columns, rows};
@@ -22,7 +22,18 @@ pub struct Cover {
     pub rows: rows::Set,
 }
 
-// Rows, the columns that they cover, and what they weigh.
+// The limit of a search for a lighter cover: what this one weighs, or the limit so far where there is none.
+pub fn limit_with(cover: &Option<Cover>, limit: u64) -> u64
+    ensures { result ≡ weight_or limit cover.now }
+{
+    match cover {
+        Some(found) => found.weight,
+        None => limit,
+    }
+}
+
+// Rows, the columns that they cover, and what they weigh. That these are counted is asked of callers, with the matrix: as a ghost field it was tried, and is
+// refused, since `Counted` gives a row for each column, and so is no proposition.
 #[derive(Clone, Copy)]
 struct Gathered {
     rows: rows::Set,
@@ -52,7 +63,7 @@ impl Gathered {
         ensures counted { Counted matrix.entry.words.now matrix.entry.weights.now self.new }
     {
         self.rows.insert(i);
-        self.columns = self.columns | matrix.columns_of(i);
+        self.columns |= matrix.columns_of(i);
         self.weight += matrix.weight(i);
     }
 

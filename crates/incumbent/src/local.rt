@@ -1,13 +1,13 @@
 // A local search for a light cover. Rows enter and leave a selection, and a column that stays open for long gets a higher price. The score of a row is what
 // its entering or leaving is worth: the prices of the columns that are then covered and were not, less those of the columns that were covered and then are
 // not. A heuristic: nothing is promised of the rows that it picks.
-ghost use Rattle.std.specs.Prelude.{◌<◌, ◌≤◌, IfSome};
+ghost use Rattle.std.specs.Prelude.{◌<◌, IfSome};
 ghost use Rattle.matrix.specs.Matrix.{row_count};
 ghost use Rattle.matrix.specs.Sets.{column_limit, row_limit};
 ghost use Rattle.incumbent.specs.Incumbent.{Incumbent};
 
-use crate::{Cover, greedy};
-use matrix::transposed::ByColumn;
+use crate::{Cover, greedy, limit_with};
+use matrix::transposed::Indexed;
 use matrix::{Matrix, Subproblem, columns, rows};
 
 // The search ends after this many steps.
@@ -32,7 +32,7 @@ struct Demand {
 
 // The rows inside the selection, the undecided columns that they leave open, and their weight; the rows that may enter, since a row that shares a column with
 // them changed after they left, and the row that may not leave, since it entered last; the number of steps and the last random number; the lightest cover so
-// far, and what a lighter one weighs less than; and what is known of each row and each column.
+// far, and the limit that it is below; and what is known of each row and each column.
 #[derive(Drop)]
 struct Workspace {
     inside: rows::Set,
@@ -42,8 +42,8 @@ struct Workspace {
     tabu: Option<usize>,
     step: u32,
     seed: u64,
-    best: Option<rows::Set>,
-    least: u64,
+    best: Option<Cover>,
+    limit: u64,
     rows: [Standing; rows::LIMIT],
     columns: [Demand; columns::LIMIT],
 }
@@ -75,7 +75,7 @@ impl Workspace {
             step: 0,
             seed: SEED,
             best: None,
-            least: limit,
+            limit,
             rows: [Standing {
                 score: 0.0,
                 stamp: 0,
@@ -87,26 +87,28 @@ impl Workspace {
         }
     }
 
-    // Adds an amount to the score of the rows of a set below `end`.
-    fn add(&mut self, set: &rows::Set, end: usize, amount: f32)
-        requires { end ≤ row_limit }
+    // Adds an amount to the scores of the rows noted at the column c.
+    fn add(&mut self, indexed: &Indexed, c: usize, amount: f32)
+        requires { c < column_limit }
     {
-        for i in set.iter(end) {
+        for i in indexed.rows_of(c) {
             self.rows[i].score += amount;
         }
     }
 
-    // The scores of the rows of a column once it is covered n + 1 times in place of n, because the row i entered. With its price negated: once it is covered
-    // n times in place of n + 1, because the row i left.
+    // The scores of the rows of the column c once it is covered n + 1 times in place of n, because the row i entered. With its price negated: once it is
+    // covered n times in place of n + 1, because the row i left.
     #[tactic(auto, using(numbers::proofs::Closures::asked))]
-    fn rescore(&mut self, set: &rows::Set, end: usize, i: usize, n: u32, price: f32)
-        requires { end ≤ row_limit }
+    fn rescore(&mut self, indexed: &Indexed, c: usize, i: usize, n: u32, price: f32)
+        requires { c < column_limit }
     {
         if n == 0 {
-            self.add(set, end, -price);
+            self.add(indexed, c, -price);
         }
         if n == 1 {
-            let other = set.iter(end).find(|&j| j != i && self.inside.contains(j));
+            let other = indexed
+                .rows_of(c)
+                .find(|&j| j != i && self.inside.contains(j));
             if let Some(j) = other {
                 self.rows[j].score += price;
             }
@@ -114,33 +116,33 @@ impl Workspace {
     }
 
     // The column c counted once less, since the row i leaves, or once more, since it enters. Counts and weights wrap, since nothing is promised of them.
-    fn recount(&mut self, by_column: &ByColumn, end: usize, i: usize, c: usize)
-        requires { (end ≤ row_limit) × (i < row_limit) × (c < column_limit) }
+    fn recount(&mut self, indexed: &Indexed, c: usize, i: usize)
+        requires { (c < column_limit) × (i < row_limit) }
     {
         let Demand { price, count } = self.columns[c];
         if self.inside.contains(i) {
             self.columns[c].count = count.wrapping_sub(1);
-            self.rescore(by_column.at(c), end, i, count.wrapping_sub(1), -price);
+            self.rescore(indexed, c, i, count.wrapping_sub(1), -price);
         } else {
             self.columns[c].count = count.wrapping_add(1);
-            self.rescore(by_column.at(c), end, i, count, price);
+            self.rescore(indexed, c, i, count, price);
         }
         if self.columns[c].count == 0 {
-            self.open = self.open | columns::Set::only(c);
+            self.open |= columns::Set::only(c);
         } else {
-            self.open = self.open - columns::Set::only(c);
+            self.open -= columns::Set::only(c);
         }
     }
 
     // The row i enters, or leaves where it is inside. Its score changes its sign, and the rows that share a column with it become candidates.
-    fn flip(&mut self, problem: &Subproblem, by_column: &ByColumn, i: usize)
-        requires { i < row_count problem.now.matrix.words.now }
+    fn flip(&mut self, indexed: &Indexed, i: usize)
+        requires { i < row_count indexed.now.problem.matrix.words.now }
     {
-        let matrix = problem.matrix;
+        let matrix = indexed.problem.matrix;
         let own = self.rows[i].score;
-        for c in matrix.columns_of(i) & problem.undecided {
-            self.recount(by_column, matrix.rows(), i, c);
-            self.candidates = self.candidates.union(by_column.at(c));
+        for c in indexed.problem.columns_of(i) {
+            self.recount(indexed, c, i);
+            self.candidates = self.candidates.union(indexed.rows_at(c));
         }
         self.rows[i] = Standing {
             score: -own,
@@ -163,100 +165,103 @@ impl Workspace {
     {
         let a = self.rows[i];
         let b = self.rows[j];
-        if a.score == b.score {
-            a.stamp < b.stamp
-        } else {
-            b.score < a.score
-        }
+        (b.score, a.stamp) < (a.score, b.stamp)
     }
 
     // The best row to leave leaves.
-    fn leave(&mut self, problem: &Subproblem, by_column: &ByColumn) {
-        let end = problem.matrix.rows();
-        let row = self
-            .inside
-            .best(end, |i| self.tabu != Some(i), |i, j| self.is_better(i, j));
+    fn leave(&mut self, indexed: &Indexed) {
+        let row = self.inside.best(
+            indexed.problem.matrix.rows(),
+            |i| self.tabu != Some(i),
+            |i, j| self.is_better(i, j),
+        );
         if let Some(i) = row {
-            self.flip(problem, by_column, i);
+            self.flip(indexed, i);
         }
+    }
+
+    // What a lighter cover weighs less than.
+    fn least(&self) -> u64 {
+        limit_with(&self.best, self.limit)
     }
 
     // Whether the row i is a candidate that is outside, and the selection stays lighter than the lightest cover so far when it enters.
     fn may_enter(&self, matrix: Matrix, i: usize) -> bool
         requires { i < row_count matrix.words.now }
     {
-        let room = self.least.saturating_sub(self.weight);
+        let room = self.least().saturating_sub(self.weight);
         !self.inside.contains(i) && self.candidates.contains(i) && matrix.weight(i) < room
     }
 
     // The best row for a random open column enters, and the columns still open get dearer.
-    fn enter(&mut self, problem: &Subproblem, by_column: &ByColumn) {
+    fn enter(&mut self, indexed: &Indexed) {
         self.seed = random(self.seed);
         let Some(c) = some_column(self.open, self.seed) else {
             return
         };
-        let matrix = problem.matrix;
-        let row = by_column.at(c).best(
+        let matrix = indexed.problem.matrix;
+        let row = indexed.rows_at(c).best(
             matrix.rows(),
             |i| self.may_enter(matrix, i),
             |i, j| self.is_better(i, j),
         );
         let Some(i) = row else { return };
-        self.flip(problem, by_column, i);
+        self.flip(indexed, i);
         self.tabu = Some(i);
-        self.raise(by_column, matrix.rows(), self.open);
+        self.raise(indexed, self.open);
     }
 
     // Raises the prices of the columns of a set by 1, and the scores of their rows with them.
-    fn raise(&mut self, by_column: &ByColumn, end: usize, set: columns::Set)
-        requires { end ≤ row_limit }
-    {
+    fn raise(&mut self, indexed: &Indexed, set: columns::Set) {
         for c in set {
             self.columns[c].price += 1.0;
-            self.add(by_column.at(c), end, 1.0);
+            self.add(indexed, c, 1.0);
         }
     }
 
     // The selection, noted as the lightest cover if it is one.
     fn note(&mut self) {
-        if self.open.is_empty() && self.weight < self.least {
-            self.least = self.weight;
-            self.best = Some(self.inside);
+        if self.open.is_empty() && self.weight < self.least() {
+            self.best = Some(Cover {
+                weight: self.weight,
+                rows: self.inside,
+            });
         }
     }
 
     // One step: a row leaves, and a row for an open column enters, unless the selection was a cover.
-    fn step(&mut self, problem: &Subproblem, by_column: &ByColumn) {
+    fn step(&mut self, indexed: &Indexed) {
         self.note();
         self.step = self.step.wrapping_add(1);
         let was_cover = self.open.is_empty();
-        self.leave(problem, by_column);
+        self.leave(indexed);
         if !was_cover {
-            self.enter(problem, by_column);
+            self.enter(indexed);
         }
     }
 
     // The rows of a greedy cover enter, with each undecided column at the price 1.
-    fn start(&mut self, problem: &Subproblem, by_column: &ByColumn) {
-        let end = problem.matrix.rows();
-        self.raise(by_column, end, problem.undecided);
+    fn start(&mut self, indexed: &Indexed) {
+        let problem = &indexed.problem;
+        self.raise(indexed, problem.undecided);
+        // No limit: a cover of any weight will do to start from.
         if let Some(cover) = greedy::cover(problem, u64::MAX) {
-            for i in cover.rows.iter(end) {
-                self.flip(problem, by_column, i);
+            for i in cover.rows.iter(problem.matrix.rows()) {
+                self.flip(indexed, i);
             }
         }
     }
 }
 
 // The lightest cover that the search comes by, if it weighs less than the limit.
-pub fn found(problem: &Subproblem, by_column: &ByColumn, limit: u64) -> Option<Cover>
-    ensures { let p = problem.now in IfSome result (λ c. Incumbent p.matrix.words.now p.matrix.weights.now p.live.now p.undecided limit c) }
+pub fn found(indexed: &Indexed, limit: u64) -> Option<Cover>
+    ensures { let p = indexed.now.problem in IfSome result (λ c. Incumbent p.matrix.words.now p.matrix.weights.now p.live.now p.undecided limit c) }
 {
-    let mut workspace = Workspace::new(problem, limit);
-    workspace.start(problem, by_column);
+    let mut workspace = Workspace::new(&indexed.problem, limit);
+    workspace.start(indexed);
     for _ in 0..STEPS {
-        workspace.step(problem, by_column);
+        workspace.step(indexed);
     }
     workspace.note();
-    crate::checked(problem, &workspace.best?, limit)
+    crate::checked(&indexed.problem, &workspace.best?.rows, limit)
 }

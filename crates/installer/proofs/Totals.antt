@@ -39,14 +39,14 @@ read_built (KeepOut totals) few = grind (arith, read_totals)
 module _ {n : ℕ} {t values cares values' cares' : List ℕ} where
   few : (totals : Totals) → Plans n t values cares values' cares' (Ok totals) → AreFew totals
   few totals p =
-      let accepted = not_refused n t values cares values' cares' totals p in
+      let accepted = not_refused p in
       let width = (plannable n t (length values) (length cares) accepted).table.to in
       let most = minimum_rows n t p.list (p.minimum accepted) in (
-        omega (arith, rows_is n t values cares values' cares' totals p, code_pairs_most n width),
+        omega (arith, rows_is p, code_pairs_most n width),
         omega (
           arith,
           code_pairs_most n width,
-          bits_is n t values cares values' cares' totals p,
+          bits_is p,
           literals_most n p.list,
           mul-le-mul_right (length p.list) width,
         ),

@@ -66,7 +66,7 @@ impl ForC for Totals {
     ghost fits = { AreFew };
 
     fn number(self) -> i32 {
-        (10000 * self.rows + self.bits) as i32
+        (10_000 * self.rows + self.bits) as i32
     }
 }
 
@@ -79,12 +79,12 @@ impl ForC for Built {
     fn number(self) -> i32 {
         match self {
             Built::Ordinary(totals) => totals.number(),
-            Built::KeepOut(totals) => 100000000 + totals.number(),
+            Built::KeepOut(totals) => 100_000_000 + totals.number(),
         }
     }
 }
 
-// Missed codes come after right, and stray codes after these.
+// Missed codes come after right, and stray codes after these: a code is a byte, so that missed codes take 1 to 256, and stray codes start at 257.
 impl ForC for Verdict {
     ghost number = { number_of_verdict };
 
@@ -106,7 +106,7 @@ impl ForC for Header {
     ghost fits = { HasFewRows };
 
     fn number(self) -> i32 {
-        (100000 * self.width + self.count) as i32
+        (100_000 * self.width + self.count) as i32
     }
 }
 

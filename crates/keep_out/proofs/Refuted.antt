@@ -18,7 +18,6 @@ use Rattle.plan.specs.declared.Totals.{Totals}
 use Rattle.plan.proofs.Answers.{refused_by}
 use Rattle.plan.proofs.Refuted.{with_totals}
 use Rattle.keep_out.specs.KeepOut.{KeepsOut, PlansKeepOut}
-use Rattle.keep_out.specs.Theorems.{exchanged}
 use Rattle.keep_out.proofs.Exchanging.{right_keeps}
 use Rattle.keep_out.proofs.Theorems.{plans_exchanged, arrays_keep_out}
 
@@ -69,7 +68,7 @@ module _ (values cares values' cares' : List ℕ) where
   pub four_before_three : PlansKeepOut 1 (3 ∷ 1 ∷ []) values cares values' cares' (Err ShortOutput) → ⊥
   unfolding some bad_cell
   four_before_three p =
-      let z : ◌≡◌ {A = ℕ} 3 4 = refused_by 1 (exchanged (3 ∷ 1 ∷ [])) values cares values' cares' ShortOutput ((plans_exchanged 1 (3 ∷ 1 ∷ []) values cares values' cares' (Err ShortOutput)).0 p) in
+      let z : ◌≡◌ {A = ℕ} 3 4 = refused_by ((plans_exchanged 1 (3 ∷ 1 ∷ []) values cares values' cares' (Err ShortOutput)).0 p) in
       omega arith
 
 -- a place written though the width is refused

@@ -3,15 +3,14 @@ use mathlib.Core.Path.{◌≡◌, sym, ap, ◌∙◌, subst}
 use mathlib.Core.List.{List}
 use Prim.Native.Nat.{ℕ, ◌^◌}
 use lib.ListN.{length}
-use Rattle.std.specs.Prelude.{Result, Ok, Err}
-use Rattle.cube.specs.Calls.{answered, written, refusal_number}
+use Rattle.std.specs.Prelude.{Result, Ok}
+use Rattle.cube.specs.Calls.{answered, written}
 use Rattle.cube.specs.declared.Refusal.{Refusal}
 use Rattle.plan.specs.Plan.{plan_refuses, totals_of, values_of, cares_of, Plans}
 use Rattle.plan.specs.declared.Totals.{Totals}
 use Rattle.plan.proofs.Refusals.{plannable}
 use Rattle.plan.proofs.Answers.{not_refused}
-use Rattle.plan.proofs.Endings.{plan_refused}
-use Rattle.plan.proofs.Theorems.{arrays_hold}
+use Rattle.plan.proofs.Theorems.{held, arrays_hold}
 use Rattle.keep_out.specs.KeepOut.{PlansKeepOut}
 use Rattle.keep_out.specs.Theorems.{exchanged, PlansExchanged, HeldKeepOut, ArraysKeepOut}
 use Rattle.keep_out.proofs.Exchanging.{exchange}
@@ -50,24 +49,19 @@ module _ (n : ℕ) (t values cares : List ℕ) where
     pub plans_exchanged : (r : Result Totals Refusal) → PlansExchanged n t values cares values' cares' r
     plans_exchanged r = (to_plan r, from_plan r)
 
-    held : (totals : Totals) → PlansKeepOut n t values cares values' cares' (Ok totals) → HeldKeepOut n t values cares values' cares' totals
-    held totals p =
+    held_keep_out : (totals : Totals) → PlansKeepOut n t values cares values' cares' (Ok totals) → HeldKeepOut n t values cares values' cares' totals
+    held_keep_out totals p =
         let q = to_plan (Ok totals) p in
-        let held = (arrays_hold n (exchanged t) values cares values' cares').counted totals q in
-        let long = cells (sym same ∙ not_refused n (exchanged t) values cares values' cares' totals q) in
-        record { held = held; minimum = ((exchange n t).lists long _).1 held.minimum }
+        let long = cells (sym same ∙ not_refused q) in
+        record { held = held q; minimum = ((exchange n t).lists long _).1 (held q).minimum }
 
     pub arrays_keep_out : ArraysKeepOut n t values cares values' cares'
     arrays_keep_out = record {
-      counted = held;
+      counted = held_keep_out;
       accepted = λ r e p. let d = (arrays_hold n (exchanged t) values cares values' cares').accepted r (same ∙ e) (to_plan r p) in (d.totals, d.answer);
     }
 
-  -- how the call ends where it refuses
-  pub keep_out_refused : (e : Refusal) → refusal_number e ≡ refusal t → PlansKeepOut n t values cares values cares (Err e)
-  keep_out_refused e h = (plans_exchanged values cares (Err e)).1 (plan_refused n (exchanged t) values cares e (h ∙ sym same))
-
-  -- and where Plan has written
+  -- how the call ends where Plan has written
   pub keep_out_done : {cells values' cares' : List ℕ} (r : Result Totals Refusal) → cells ≡ exchanged t → Plans n cells values cares values' cares' r
       → PlansKeepOut n t values cares values' cares' r
   keep_out_done {values' = values'} {cares'} r e p = (plans_exchanged values' cares' r).1 (subst (λ (u : List ℕ). Plans n u values cares values' cares' r) e p)

@@ -8,12 +8,14 @@ use native.Mathlib.Omega.{arith}
 use lib.Dec.{eqb, ltb}
 use lib.ListN.{length, take, drop, length-drop, take-append-drop}
 use lib.Seq.{length-take-le, take-length, take-append_seam, drop-append_seam}
+use mir.Facts.{yes_eqb}
 use borrow.Author.Tests.{le-ltb, eqb-true, not-false}
 use Rattle.std.specs.Prelude.{Ok}
-use Rattle.numbers.proofs.Bools.{is_true, eqb_of}
+use Rattle.std.proofs.lemmas.Bool.{or_parts}
+use Rattle.numbers.proofs.Bools.{is_true}
 use Rattle.cube.specs.Words.{rows_of}
 use Rattle.cube.specs.Calls.{bad_width, short, bad_row, bad_file, when, first_of, list_conditions}
-use Rattle.cube.proofs.Calls.{neither, first_passes, none_first, none_in_front, AcceptedList, accepted_list, last_passes, last_none, neither_short, answered_gives}
+use Rattle.cube.proofs.Calls.{first_passes, none_first, none_in_front, AcceptedList, accepted_list, last_passes, last_none, neither_short, answered_gives}
 use Rattle.listfile.specs.File.{Format, one_byte_count, file_length, file_of, width_in, values_in, cares_in}
 use Rattle.listfile.specs.Write.{write_refuses}
 use Rattle.listfile.specs.Read.{rows_in, wrong_length, file_conditions, read_refuses, width_and_count, Reads}
@@ -79,12 +81,12 @@ bad_else bytes header needed l = sym (ap (λ (b : Bool). b || not (eqb bytes nee
 pub right_length : (format : Format) (file : List ℕ) → wrong_length format file ≡ false → Whole format file
 right_length format file e =
     let needed = file_length format (format.count file) in
-    eqb-true (length file) needed (not-false (eqb (length file) needed) (neither (ltb (length file) format.size) (not (eqb (length file) needed)) e).1)
+    eqb-true (length file) needed (not-false (eqb (length file) needed) (or_parts (ltb (length file) format.size) (not (eqb (length file) needed)) e).1)
 
 whole_right : (format : Format) (file : List ℕ) → Whole format file → wrong_length format file ≡ false
 whole_right format file whole =
     let needed = file_length format (format.count file) in
-    sym (bad_else (length file) format.size needed (omega (arith, whole))) ∙ ap not (is_true (eqb (length file) needed) (eqb_of (length file) needed whole))
+    sym (bad_else (length file) format.size needed (omega (arith, whole))) ∙ ap not (is_true (eqb (length file) needed) (yes_eqb whole))
 
 pub accepted_file : (format : Format) (file : List ℕ) → first_of (file_conditions format file) ≡ 0 → AcceptedFile format file
 accepted_file format file e =

@@ -6,9 +6,10 @@ use Prim.Native.Nat.{ℕ, ◌≤◌}
 use native.Mathlib.Omega.{arith}
 use lib.Dec.{eqb}
 use lib.ListN.{length, take}
+use mir.Facts.{yes_eqb}
 use borrow.Author.Tests.{le-ltb}
 use Rattle.std.specs.Prelude.{Result, Ok, Err}
-use Rattle.numbers.proofs.Bools.{is_true, eqb_of}
+use Rattle.numbers.proofs.Bools.{is_true}
 use Rattle.numbers.proofs.Fronts.{front_is}
 use Rattle.cube.specs.Words.{rows_of}
 use Rattle.cube.specs.Calls.{bad_width, short, unequal_lengths, most_rows, too_many_rows, bad_row, when, first_of, list_conditions, gives, answered, answer_of, refusal_number, written}
@@ -95,7 +96,7 @@ module _ (file : List ℕ) (few : one_byte_count.count file ≤ most_rows) (a : 
   list_passes : first_of (list_conditions (width_in file) vs ws) ≡ 0
   list_passes =
       let last = when (bad_row (width_in file) (rows_of vs ws)) 7 ∷ [] in
-      first_passes (unequal_lengths vs ws) 5 (when (too_many_rows (length (rows_of vs ws))) 6 ∷ last) (ap not (is_true (eqb (length vs) (length ws)) (eqb_of (length vs) (length ws) equal)))
+      first_passes (unequal_lengths vs ws) 5 (when (too_many_rows (length (rows_of vs ws))) 6 ∷ last) (ap not (is_true (eqb (length vs) (length ws)) (yes_eqb equal)))
       ∙ first_passes (too_many_rows (length (rows_of vs ws))) 6 last (le-ltb most_rows (length (rows_of vs ws)) (omega (arith, rows_count, few))) ∙ first_passes (bad_row (width_in file) (rows_of vs ws)) 7 [] a.formed
 
   module _ (out out' : List ℕ) (l : length file ≤ length out) where

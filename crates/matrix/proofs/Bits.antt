@@ -12,7 +12,8 @@ use lib.Bits.{bit_and, bit_or, bit_xor, differ, and_step, or_step, xor_step, and
 use lib.Count.{count_trailing_zeros, under}
 use Rattle.std.specs.Prelude.{Some, None}
 use borrow.Author.Tests.{eq-eqb, ne_eqb, lt-ltb, le-ltb, le-leb, lt-leb, eqb-true, eqb-false}
-use Rattle.numbers.proofs.Flags.{clash, not_set, both_of, kept_of_lem}
+use Rattle.std.proofs.lemmas.Bool.{false_from_ne_true, and_parts}
+use Rattle.numbers.proofs.Flags.{clash, kept_of_lem}
 use Rattle.matrix.specs.Sets.{word_bits, has_bit, has, no_column, has_raised, In, Emptiness, Inclusion, Next, NextIfAny}
 
 abbrev digit : ℕ → ℕ → ℕ
@@ -170,7 +171,7 @@ has_mod x w c = go (dec_lt c w)
     go (yes l) = let e : w ≡ w - c - 1 + 1 + c = omega arith in
         ap (λ (y : ℕ). has_bit (x % 2 ^ y) c) e ∙ kept x (w - c - 1) c ∙ sym (ap (λ (b : Bool). b && has_bit x c) (lt-ltb c w l))
     go (no n) =
-        not_set (has_bit (x % 2 ^ w) c) (λ h. n (in_below (x % 2 ^ w) c w (mod-lt x (pow_pos w)) h))
+        false_from_ne_true (has_bit (x % 2 ^ w) c) (λ h. n (in_below (x % 2 ^ w) c w (mod-lt x (pow_pos w)) h))
         ∙ sym (ap (λ (b : Bool). b && has_bit x c) (le-ltb c w (omega arith)))
 
 pub has_raised_lem : (x d c : ℕ) → has_bit (x * 2 ^ d % 2 ^ word_bits) c ≡ has_raised x d c
@@ -349,8 +350,8 @@ without_first x y b e l n c = go (dec_lt 0 y)
     go (no h) =
         let z : y ≡ 0 = omega arith in
         let none : has_bit x c ≡ false = ap (λ (i : ℕ). has_bit i c) (sym e ∙ z) ∙ has_zero c in
-        not_set _ (λ k. clash (both_of _ _ (has_and y ((y + (2 ^ word_bits - 1)) % 2 ^ word_bits) c) k).0 (ap (λ (i : ℕ). has_bit i c) z ∙ has_zero c))
-        ∙ sym (not_set _ (λ k. clash (both_of _ _ refl k).1 none))
+        false_from_ne_true _ (λ k. clash (and_parts _ _ (sym (has_and y ((y + (2 ^ word_bits - 1)) % 2 ^ word_bits) c) ∙ k)).0 (ap (λ (i : ℕ). has_bit i c) z ∙ has_zero c))
+        ∙ sym (false_from_ne_true _ (λ k. clash (and_parts _ _ k).1 none))
 
 -- a word that is v | w, or v ^ (v & w), is no wider
 pub or_fits : (a b : ℕ) → a < 2 ^ word_bits → b < 2 ^ word_bits → bit_or a b < 2 ^ word_bits

@@ -8,12 +8,12 @@ use native.Mathlib.Numerals.{add-one}
 use native.Mathlib.Omega.{arith}
 use Rattle.std.specs.Prelude.{Option, None, Some}
 use Rattle.std.specs.Iterator.{Yields}
+use Rattle.std.proofs.lemmas.Bool.{false_from_ne_true}
 use Rattle.covering.specs.Sum.{if_set, sum}
 use Rattle.covering.proofs.Sums.{sum_skip, if_set_true, if_set_false}
 use Rattle.numbers.specs.Below.{those}
 use Rattle.numbers.specs.Ascending.{passed}
 use Rattle.numbers.proofs.Below.{those_same}
-use Rattle.numbers.proofs.Flags.{not_set}
 use Rattle.numbers.proofs.Loops.{Turn, Ended, turn_in, end_has}
 use Rattle.matrix.specs.Sets.{word_bits, has_bit, member}
 use Rattle.matrix.specs.Walks.{bits_end, bits_left, YieldsBits, rows_end, rows_left, YieldsRows}
@@ -66,4 +66,4 @@ module _ (p : ℕ → Bool) (f : ℕ → ℕ) (n : ℕ) (ys : List ℕ) where
 
   pub sum_all : Ended n p ys → sum (passed ys) (λ i. if_set (p i) (f i)) ≡ sum n (λ i. if_set (p i) (f i))
   sum_all t =
-      sym (sum_skip (passed ys) n t.within (λ i l m. if_set_false (f i) (not_set (p i) (λ h. omega (arith, t.all i m h)))))
+      sym (sum_skip (passed ys) n t.within (λ i l m. if_set_false (f i) (false_from_ne_true (p i) (λ h. omega (arith, t.all i m h)))))

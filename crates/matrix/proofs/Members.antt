@@ -2,18 +2,20 @@
 use mathlib.Core.Path.{◌≡◌, refl, sym, ap, ap₂, ◌∙◌}
 use mathlib.Core.List.{List, [], ◌∷◌}
 use mathlib.Core.Bool.{Bool, true, false, not, ◌&&◌}
-use Prim.Native.Nat.{ℕ, suc, ◌+◌, ◌-◌, ◌*◌, ◌/◌, ◌%◌, ◌≤◌, ◌<◌}
+use Prim.Native.Nat.{ℕ, suc, ◌+◌, ◌-◌, ◌/◌, ◌%◌, ◌≤◌, ◌<◌}
 use native.Mathlib.Decide.{ℕ_discrete, dec_lt}
 use native.Mathlib.Omega.{arith}
-use lib.Dec.{eqb, ltb, leb}
+use lib.Dec.{eqb, ltb}
 use lib.ListN.{length, get_or, drop, set, replicate, length-replicate, get_or-replicate, get_or-eq_default}
 use lib.Seq.{get_or-set_same, get_or-set_other}
-use Rattle.std.proofs.lemmas.List.{get_or-drop}
+use denote.Param.Members.{Mut, Called}
+use Rattle.std.specs.Array.{IsFromFnResult}
 use borrow.Author.Tests.{eq-eqb, ne_eqb, lt-ltb, le-ltb, le-leb, lt-leb}
+use Rattle.std.proofs.lemmas.Bool.{false_from_ne_true}
 use Rattle.matrix.specs.Sets.{word_bits, row_words, has_bit, member, Next}
 use Rattle.matrix.specs.Walks.{left_behind}
-use Rattle.numbers.proofs.Flags.{not_set}
 use Rattle.matrix.proofs.Bits.{has_zero}
+use Rattle.matrix.proofs.Made.{made}
 
 -- past a list's end there is no row
 pub member_past : (s : List ℕ) (j : ℕ) → length s ≤ j / word_bits → member s j ≡ false
@@ -56,20 +58,24 @@ member_put op id s i w l e j = go (ℕ_discrete (j / word_bits) (i / word_bits))
 abbrev pub lacking : Bool → Bool → Bool
 lacking x y = x && not y
 
--- the words of s before k are those of a and b joined, and the others are those of a
-pub record Joined (op : Bool → Bool → Bool) (a b s : List ℕ) (k : ℕ) : Type 0 where
-  pub long : length s ≡ row_words
-  pub done : (m x : ℕ) → m < k → has_bit (get_or s m 0) x ≡ op (has_bit (get_or a m 0) x) (has_bit (get_or b m 0) x)
-  pub left : (m : ℕ) → k ≤ m → get_or s m 0 ≡ get_or a m 0
-
 module _ (op : Bool → Bool → Bool) (a b : List ℕ) where
-  pub joined_all : op false false ≡ false → length a ≡ row_words → length b ≡ row_words → (s : List ℕ) (k : ℕ) → Joined op a b s k → row_words ≤ k → (j : ℕ) → member s j ≡ op (member a j) (member b j)
+  -- both sets are whole, and w is the word k of both joined
+  abbrev pub Joins : ℕ → ℕ → Type 0
+  Joins k w = (length a ≡ row_words) × (length b ≡ row_words) × ((x : ℕ) → has_bit w x ≡ op (has_bit (get_or a k 0) x) (has_bit (get_or b k 0) x))
+
+  -- a closure that joins two words made s
+  pub joined : op false false ≡ false → {F : Type 0} (g : Mut F (ℕ × Unit {0}) ℕ) (f : F) (s : List ℕ) → IsFromFnResult g f s row_words
+      → ((k w : ℕ) (q : F) → Called g f (k, tt) w q → (q ≡ f) × Joins k w) → (j : ℕ) → member s j ≡ op (member a j) (member b j)
   unfolding member
-  joined_all e l m s k h g j = go (dec_lt (j / word_bits) row_words)
+  joined e g f s r step j = go (dec_lt (j / word_bits) row_words)
     where
+      word : (k : ℕ) → k < row_words → Joins k (get_or s k 0)
+      word k l = made g f s Joins step row_words 0 r.each k (omega arith) l 0
+
       go : Dec (j / word_bits < row_words) → has_bit (get_or s (j / word_bits) 0) (j % word_bits) ≡ op (has_bit (get_or a (j / word_bits) 0) (j % word_bits)) (has_bit (get_or b (j / word_bits) 0) (j % word_bits))
-      go (yes n) = h.done (j / word_bits) (j % word_bits) (omega arith)
-      go (no n) = member_past s j (omega (arith, h.long)) ∙ sym e ∙ ap₂ op (sym (member_past a j (omega arith))) (sym (member_past b j (omega arith)))
+      go (yes l) = (word (j / word_bits) l).2 (j % word_bits)
+      go (no n) = let h = word 0 (omega arith) in
+          member_past s j (omega (arith, r.long)) ∙ sym e ∙ ap₂ op (sym (member_past a j (omega (arith, h.0)))) (sym (member_past b j (omega (arith, h.1))))
 
 -- ---- going through the rows
 
@@ -121,7 +127,7 @@ module _ (word : ℕ) (rest : List ℕ) (base : ℕ) where
 
         go : Dec (j < base) → Dec (j < base + word_bits) → left_behind rest (base + word_bits) j ≡ left_behind (word ∷ rest) base j
         go (yes l) d = off _ (lt-leb (base + word_bits) j (omega arith)) ∙ sym (left_no j l)
-        go (no n) (yes l) = off _ (lt-leb (base + word_bits) j l) ∙ sym (left_bit j (omega arith) (omega arith) ∙ not_set _ (none (j - base)))
+        go (no n) (yes l) = off _ (lt-leb (base + word_bits) j l) ∙ sym (left_bit j (omega arith) (omega arith) ∙ false_from_ne_true _ (none (j - base)))
         go (no n) (no m) = let e : j - (base + word_bits) ≡ j - base - word_bits = omega arith in
             ap (λ (b : Bool). b && member rest (j - (base + word_bits))) (le-leb (base + word_bits) j (omega arith)) ∙ ap (member rest) e
             ∙ sym (left_row j (omega arith) (omega arith))
@@ -132,7 +138,7 @@ module _ (word : ℕ) (rest : List ℕ) (base : ℕ) where
       where
         go : Dec (j < base) → left_behind (word ∷ rest) base j ≡ false
         go (yes n) = left_no j n
-        go (no n) = left_bit j (omega arith) (omega arith) ∙ not_set _ (none (j - base))
+        go (no n) = left_bit j (omega arith) (omega arith) ∙ false_from_ne_true _ (none (j - base))
 
     pub left_end : length rest ≡ 0 → (j : ℕ) → left_behind (word ∷ rest) base j ≡ false
     left_end e j = go (dec_lt j (base + word_bits))
@@ -177,39 +183,3 @@ module _ (word : ℕ) (rest : List ℕ) (base : ℕ) where
             ap (λ (t : Bool). t && member (w ∷ rest) (j - base)) (le-leb base j (omega arith)) ∙ member_behind w rest (j - base) (omega arith)
             ∙ sym (left_row j (omega arith) (omega arith))
             ∙ sym (ap (λ (t : Bool). t && left_behind (word ∷ rest) base j) (lt-ltb (base + b) j (omega (arith, first.0))))
-
--- the rows from `from` on are what is left where the word has lost its bits below
-pub left_from : (set : List ℕ) (from w : ℕ) → ((x : ℕ) → x < word_bits → has_bit w x ≡ (leb (from % word_bits) x && has_bit (get_or set (from / word_bits) 0) x)) → (j : ℕ)
-    → left_behind (w ∷ drop (from / word_bits + 1) set) (from / word_bits * word_bits) j ≡ (leb from j && member set j)
-unfolding member
-left_from set from w e j = go (dec_lt j (from / word_bits * word_bits)) (dec_lt j (from / word_bits * word_bits + word_bits))
-  where
-    in_word : j / word_bits ≡ from / word_bits → has_bit (get_or set (from / word_bits) 0) (j - from / word_bits * word_bits) ≡ member set j
-    in_word d =
-        let m : j - from / word_bits * word_bits ≡ j % word_bits = omega arith in
-        ap₂ (λ (k x : ℕ). has_bit (get_or set k 0) x) (sym d) m
-
-    in_rest : from / word_bits < j / word_bits → member (drop (from / word_bits + 1) set) (j - from / word_bits * word_bits - word_bits) ≡ member set j
-    in_rest l =
-        let i : ℕ = j - from / word_bits * word_bits - word_bits in
-        let m : i % word_bits ≡ j % word_bits = omega arith in
-        let k : from / word_bits + 1 + i / word_bits ≡ j / word_bits = omega arith in
-        ap₂ has_bit (get_or-drop (from / word_bits + 1) set (i / word_bits) 0 ∙ ap (λ (k : ℕ). get_or set k 0) k) m
-
-    same : j / word_bits ≡ from / word_bits → leb (from % word_bits) (j - from / word_bits * word_bits) ≡ leb from j
-    same d = at (dec_lt j from)
-      where
-        at : Dec (j < from) → leb (from % word_bits) (j - from / word_bits * word_bits) ≡ leb from j
-        at (yes l) = lt-leb (from % word_bits) (j - from / word_bits * word_bits) (omega arith) ∙ sym (lt-leb from j l)
-        at (no n) = le-leb (from % word_bits) (j - from / word_bits * word_bits) (omega arith) ∙ sym (le-leb from j (omega arith))
-
-    go : Dec (j < from / word_bits * word_bits) → Dec (j < from / word_bits * word_bits + word_bits)
-        → left_behind (w ∷ drop (from / word_bits + 1) set) (from / word_bits * word_bits) j ≡ (leb from j && member set j)
-    go (yes l) d =
-        left_no w (drop (from / word_bits + 1) set) (from / word_bits * word_bits) j l ∙ sym (ap (λ (t : Bool). t && member set j) (lt-leb from j (omega arith)))
-    go (no n) (yes l) =
-        left_bit w (drop (from / word_bits + 1) set) (from / word_bits * word_bits) j (omega arith) (omega arith) ∙ e (j - from / word_bits * word_bits) (omega arith)
-        ∙ ap₂ ◌&&◌ (same (omega arith)) (in_word (omega arith))
-    go (no n) (no m) =
-        left_row w (drop (from / word_bits + 1) set) (from / word_bits * word_bits) j (omega arith) (omega arith) ∙ in_rest (omega arith)
-        ∙ sym (ap (λ (t : Bool). t && member set j) (le-leb from j (omega arith)))

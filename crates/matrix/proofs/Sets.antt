@@ -1,22 +1,18 @@
--- What the iterators over sets take, the first row from a number on, and how many rows there are. Assumes nothing.
+-- What the iterators over sets take, and how many rows there are. Assumes nothing.
 use mathlib.Core.Path.{◌≡◌, refl, sym, ap, ap₂, ◌∙◌}
 use mathlib.Core.List.{List, [], ◌∷◌}
 use mathlib.Core.Bool.{Bool, true, false, cond, ◌&&◌}
-use Prim.Native.Nat.{ℕ, zero, suc, ◌+◌, ◌-◌, ◌*◌, ◌/◌, ◌%◌, ◌≤◌, ◌<◌}
-use native.Mathlib.Decide.{dec_lt}
+use Prim.Native.Nat.{ℕ, zero, suc, ◌+◌, ◌-◌, ◌<◌}
 use native.Mathlib.Omega.{arith}
-use lib.Dec.{ltb, leb}
-use lib.ListN.{length, length-append, get_or, drop}
-use borrow.Author.Tests.{lt-ltb, le-leb, lt-leb, leb-true}
-use Rattle.std.specs.Prelude.{Option, None, Some}
+use lib.Dec.{ltb}
+use lib.ListN.{length, length-append}
 use Rattle.covering.specs.Sum.{if_set, sum}
 use Rattle.covering.specs.Weighted.{set_size}
 use Rattle.numbers.specs.Below.{those}
-use Rattle.numbers.proofs.Flags.{both_of}
 use Rattle.numbers.specs.Ascending.{TakesLeast}
-use Rattle.matrix.specs.Sets.{word_bits, has_bit, has_raised, member, Next, NextIfAny}
-use Rattle.matrix.specs.Walks.{bits_end, bits_left, left_behind, rows_end, rows_left, YieldsRows}
-use Rattle.matrix.proofs.Members.{left_here, left_before, left_after, left_from}
+use Rattle.matrix.specs.Sets.{word_bits, has_bit, Next}
+use Rattle.matrix.specs.Walks.{bits_end, bits_left, left_behind, rows_end, rows_left}
+use Rattle.matrix.proofs.Members.{left_here, left_before, left_after}
 use Rattle.matrix.specs.declared.rows.Rows.{Rows}
 
 pub bit_taken : {w w' b : ℕ} → (b < word_bits) × Next (has_bit w) 0 word_bits b → ((b : ℕ) → Next (has_bit w) 0 word_bits b → (x : ℕ) → has_bit w' x ≡ (ltb b x && has_bit w x))
@@ -45,41 +41,6 @@ row_taken a s t w v b h i n f k l p q r = record {
 pub none_left : (a s : Rows) (w : ℕ) → (s.end ≡ a.end) × ((j : ℕ) → rows_left s j ≡ rows_left a j) → w ≡ s.word
     → ((j : ℕ) → j < s.end → left_behind (w ∷ s.rest.now) s.base j ≡ false) → (j : ℕ) → j < a.end → rows_left a j ≡ false
 none_left a s w h i f j l = sym (h.1 j) ∙ sym (word_is s w i j) ∙ f j (omega (arith, h.0))
-
--- ---- the first row from `from` on, where the word of `from` loses its bits below
-
-bits_behind : (w v u f x : ℕ) → x < word_bits → ((x : ℕ) → has_bit v x ≡ has_bit w (x + f)) → ((x : ℕ) → has_bit u x ≡ has_raised v f x) → has_bit u x ≡ (leb f x && has_bit w x)
-bits_behind w v u f x l g h = h x ∙ ap (λ (b : Bool). b && (leb f x && has_bit v (x - f))) (lt-ltb x word_bits l) ∙ go (dec_lt x f)
-  where
-    go : Dec (x < f) → (leb f x && has_bit v (x - f)) ≡ (leb f x && has_bit w x)
-    go (yes k) = ap (λ (b : Bool). b && has_bit v (x - f)) (lt-leb f x k) ∙ sym (ap (λ (b : Bool). b && has_bit w x) (lt-leb f x k))
-    go (no n) = let e : x - f + f ≡ x = omega arith in ap (λ (b : Bool). leb f x && b) (g (x - f) ∙ ap (has_bit w) e)
-
-next_of : (set : List ℕ) (from end : ℕ) (r : Option ℕ) (a t : Rows) → a.end ≡ end → ((j : ℕ) → rows_left a j ≡ (leb from j && member set j)) → from ≤ end → YieldsRows a r t
-    → NextIfAny (member set) from end r
-next_of set from end None a t e h l n = record {
-  above = l;
-  within = omega arith;
-  before = λ j k m. sym (h j ∙ ap (λ (b : Bool). b && member set j) (le-leb from j k)) ∙ n j (omega arith);
-  here = λ k. absurd (omega arith);
-}
-next_of set from end (Some x) a t e h l n =
-    let b = both_of (leb from x) (member set x) (h x) n.here in (
-      omega (arith, n.within),
-      record {
-        above = leb-true from x b.0;
-        within = omega (arith, n.within);
-        before = λ j k m. sym (h j ∙ ap (λ (b : Bool). b && member set j) (le-leb from j k)) ∙ n.before j m;
-        here = λ k. b.1;
-      },
-    )
-
-pub next_row : (set : List ℕ) (from end w v u : ℕ) → w ≡ get_or set (from / word_bits) 0 → ((x : ℕ) → has_bit v x ≡ has_bit w (x + from % word_bits))
-    → ((x : ℕ) → has_bit u x ≡ has_raised v (from % word_bits) x) → (r : Option ℕ) (a t : Rows) → a.end ≡ end
-    → ((j : ℕ) → rows_left a j ≡ left_behind (u ∷ drop (from / word_bits + 1) set) (from / word_bits * word_bits) j) → from ≤ end → YieldsRows a r t → NextIfAny (member set) from end r
-next_row set from end w v u e f g r a t l h k n =
-    next_of set from end r a t l
-    (λ j. h j ∙ left_from set from u (λ x m. bits_behind w v u (from % word_bits) x m f g ∙ ap (λ (z : ℕ). leb (from % word_bits) x && has_bit z x) e) j) k n
 
 -- ---- how many rows there are
 

@@ -10,9 +10,10 @@ use native.Mathlib.Omega.{arith}
 use lib.Dec.{eqb}
 use lib.ListN.{length, get_or, get_or-eq_default}
 use borrow.Author.Tests.{eq-eqb, ne_eqb}
+use Rattle.std.proofs.lemmas.Bool.{false_from_ne_true}
 use Rattle.covering.specs.Sum.{if_set}
 use Rattle.covering.specs.Weighted.{set_size}
-use Rattle.numbers.proofs.Flags.{clash, not_set, kept_of_lem}
+use Rattle.numbers.proofs.Flags.{clash, kept_of_lem}
 use Rattle.covering.proofs.Sums.{sum_mono, sum_most, sum_with, if_set_mono, if_set_le}
 use Rattle.matrix.specs.Sets.{has_bit, has, member, Member}
 use Rattle.matrix.specs.Matrix.{CoversColumn}
@@ -35,7 +36,7 @@ module _ (s t : List ℕ) (r : ℕ) (e : (j : ℕ) → member t j ≡ (member s 
   left_size n l h = sum_with n r (λ i. 1) (member t) (member s) l out (λ i. go i (ℕ_discrete i r))
     where
       out : member t r ≡ false
-      out = not_set (member t r) left_out
+      out = false_from_ne_true (member t r) left_out
 
       go : (i : ℕ) → Dec (i ≡ r) → member s i ≡ (eqb i r || member t i)
       go i (yes d) = ap (member s) d ∙ h ∙ ap (λ (b : Bool). b || member t i) (sym (eq-eqb i r d))
@@ -60,7 +61,7 @@ covers_within words i c = go (dec_lt i (length words))
   where
     go : Dec (i < length words) → (has_bit (get_or words i 0) c ≡ false) ⊎ (i < length words)
     go (yes l) = inr l
-    go (no n) = inl (not_set (has_bit (get_or words i 0) c) (covers_past words i c (omega arith)))
+    go (no n) = inl (false_from_ne_true (has_bit (get_or words i 0) c) (covers_past words i c (omega arith)))
 
 -- so what holds of each row before the end holds of each that covers something
 pub each_row_lem : (words : List ℕ) (P : ℕ → Type 0) (c n : ℕ) → length words ≤ n → ((i : ℕ) → i < n → CoversColumn words i c → P i) → (i : ℕ) → CoversColumn words i c → P i

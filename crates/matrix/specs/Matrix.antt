@@ -31,3 +31,9 @@ pub record Sizes (words weights : List ℕ) : Type 0 where
 -- every cover of the columns u by live rows weighs at least k
 abbrev pub Low : List ℕ → List ℕ → RowSet → ColumnSet → ℕ → Type 0
 Low words weights live u k = AtLeast (CoversColumn words) (weight_of weights) (Member live) (In u) k
+
+-- j is a live row that weighs no more than i and covers the columns of a set
+pub record StandsIn (words weights : List ℕ) (live : RowSet) (set : ColumnSet) (i j : ℕ) : Type 0 where
+  pub lives : Member live j
+  pub light : weight_of weights j ≤ weight_of weights i
+  pub inside : (c : ℕ) → In set c → CoversColumn words j c

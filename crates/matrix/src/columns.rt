@@ -43,7 +43,7 @@ impl Coverage {
         ensures once { (x : ℕ) → has self.new.once x ≡ (has self.old.once x || has word x) }
         ensures twice { (x : ℕ) → has self.new.twice x ≡ (has self.old.twice x || has self.old.once x && has word x) }
     {
-        self.twice = self.twice | self.once & word;
-        self.once = self.once | word;
+        self.twice |= self.once & word;
+        self.once |= word;
     }
 }

@@ -1,9 +1,10 @@
 // Sets of rows: arrays of twelve words of 64 bits.
-ghost use Rattle.std.specs.Prelude.{◌≡◌, true, false, not, ◌&&◌, ◌||◌, ℕ, ◌+◌, ◌≤◌, ◌<◌, eqb, ltb, drop, get_or, MatchOption};
+ghost use Rattle.std.specs.Prelude.{◌≡◌, true, false, not, ◌&&◌, ◌||◌, ℕ, ◌≤◌, ◌<◌, eqb, ltb, length, get_or, MatchOption};
 ghost use Rattle.covering.specs.Weighted.{set_size};
-ghost use Rattle.matrix.specs.Sets.{row_limit, row_words, member, Member, NextIfAny};
+ghost use Rattle.matrix.specs.Sets.{row_limit, row_words, member, Member};
 
 use crate::words::{self, Word};
+use std::array;
 use std::marker::Model;
 
 // The words of a set.
@@ -40,19 +41,10 @@ impl Set {
     #[inline]
     fn word(&self, k: usize) -> Word
         requires { k < row_words }
-        ensures { result ≡ get_or self.now k 0 }
+        ensures is { result ≡ get_or self.now k 0 }
+        ensures long { length self.now ≡ row_words }
     {
         self.words[k]
-    }
-
-    // The words behind the word k.
-    #[inline]
-    fn behind(&self, k: usize) -> &[Word]
-        requires { k < row_words }
-        ensures { result.now ≡ drop (k + 1) self.now }
-    {
-        let words = &self.words[..];
-        &words[k + 1..]
     }
 
     // No row.
@@ -78,6 +70,7 @@ impl Set {
 
     // Whether the row i is in the set.
     #[inline]
+    #[tactic(auto, unfolding(crate::specs::Sets::member))]
     pub fn contains(&self, i: usize) -> bool
         requires { i < row_limit }
         ensures { result ≡ member self.now i }
@@ -111,25 +104,21 @@ impl Set {
     pub fn union(&self, other: &Set) -> Set
         ensures { (j : ℕ) → member result j ≡ (member self.now j || member other.now j) }
     {
-        let mut set = *self;
-        for k in 0..WORDS {
-            set.words[k] = set.words[k] | other.words[k];
+        Set {
+            words: array::from_fn(|k| self.word(k) | other.word(k)),
         }
-        set
     }
 
-    // The rows that the other set lacks. (Not one function with `union`: to a closure for the word it would have to promise the lengths of three lists.)
+    // The rows that the other set lacks. No call uses it: it is what takes a set of rows, an orbit say, out of the live ones.
     pub fn difference(&self, other: &Set) -> Set
         ensures { (j : ℕ) → member result j ≡ (member self.now j && not (member other.now j)) }
     {
-        let mut set = *self;
-        for k in 0..WORDS {
-            set.words[k] = set.words[k] - other.words[k];
+        Set {
+            words: array::from_fn(|k| self.word(k) - other.word(k)),
         }
-        set
     }
 
-    // The rows before `end`, ascending.
+    // The rows before `end`, ascending. The end is handed in, and asked to be at most `row_limit`: a set does not know the matrix, whose `rows` promises it.
     #[inline]
     pub fn iter(&self, end: usize) -> Rows<'_>
         requires { end ≤ row_limit }
@@ -137,31 +126,13 @@ impl Set {
         ensures set { (j : ℕ) → rows_left result j ≡ member self.now j }
         ensures runs { EachRunFrom YieldsRows result (GivesBelow end (member self.now)) }
     {
+        let words = &self.words[..];
         Rows {
-            word: u64::from(self.word(0)),
-            rest: self.behind(0),
+            word: u64::from(words[0]),
+            rest: &words[1..],
             base: 0,
             end,
         }
-    }
-
-    // The first row from `from` on and before `end`.
-    pub fn next_from(&self, from: usize, end: usize) -> Option<usize>
-        requires { (from ≤ end) × (end ≤ row_limit) }
-        ensures { NextIfAny (member self.now) from end result }
-    {
-        if from == LIMIT {
-            return None;
-        }
-        let place = from / words::BITS;
-        let word = self.word(place) >> from % words::BITS << from % words::BITS;
-        let mut left = Rows {
-            word: u64::from(word),
-            rest: self.behind(place),
-            base: place * words::BITS,
-            end,
-        };
-        left.next()
     }
 
     // How many rows before `end` a set has.
@@ -198,8 +169,8 @@ impl Set {
     }
 }
 
-// The rows of a set before `end`, ascending: what is left of a word, whose first row is `base`, and the words behind it. The word is a number here, since
-// no adapter of an iterator is proved over a struct that holds a struct with a model beside a reference.
+// The rows of a set before `end`, ascending: what is left of a word, whose first row is `base`, and the words behind it. The word is a number: a `Word` was
+// tried, and the proof of no adapter closes over an iterator that holds a struct with a model beside a reference.
 #[derive(Clone, Copy)]
 pub struct Rows<'a> {
     word: u64,
@@ -219,6 +190,7 @@ impl<'a> Iterator for Rows<'a> {
 
     #[inline]
     fn next(&mut self) -> Option<usize> {
+        // Words without a row are passed over, and nothing counts them.
         while Word::from(self.word).is_empty() {
             if self.end.saturating_sub(self.base) <= words::BITS {
                 return None;

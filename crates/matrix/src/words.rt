@@ -6,7 +6,7 @@ ghost use Rattle.numbers.specs.Ascending.{GivesBelow};
 ghost use Rattle.matrix.specs.Walks.{YieldsBits, bits_word, bits_count};
 
 use std::marker::Model;
-use std::ops::{BitAnd, BitOr, Shl, Shr, Sub};
+use std::ops::{BitAnd, BitAndAssign, BitOr, BitOrAssign, Shl, Shr, Sub, SubAssign};
 
 // The bits of a word.
 pub const BITS: usize = 64;
@@ -53,7 +53,7 @@ impl Word {
     // Every bit.
     pub const ALL: Word = Word(u64::MAX);
 
-    // The bit b alone.
+    // The bit b alone. It is asked to be one of a word's: a number of a column is any `usize`.
     #[inline]
     #[tactic(auto, using(crate::proofs::Bits::has_only))]
     pub fn only(b: usize) -> Word
@@ -114,7 +114,8 @@ impl Word {
         Word(self.0 + (1 << b))
     }
 
-    // The first bit.
+    // The first bit. That all bits are within the word is promised with it: a law in its place was tried, and the proof does not close where a caller unwraps
+    // the first column of a set that has one.
     #[inline]
     #[tactic(auto, using(crate::proofs::Bits::bits_within))]
     pub fn first(self) -> Option<usize>
@@ -165,6 +166,16 @@ impl BitAnd for Word {
     }
 }
 
+// The same, put in place of the first word.
+impl BitAndAssign for Word {
+    ghost bitand_assign_gives = { λ v w r. (x : ℕ) → has_bit r x ≡ (has_bit v x && has_bit w x) };
+
+    #[inline]
+    fn bitand_assign(&mut self, other: Word) {
+        *self = *self & other;
+    }
+}
+
 // The bits of either word.
 impl BitOr for Word {
     type Output = Word;
@@ -178,6 +189,16 @@ impl BitOr for Word {
     }
 }
 
+// The same, put in place of the first word.
+impl BitOrAssign for Word {
+    ghost bitor_assign_gives = { λ v w r. (x : ℕ) → has_bit r x ≡ (has_bit v x || has_bit w x) };
+
+    #[inline]
+    fn bitor_assign(&mut self, other: Word) {
+        *self = *self | other;
+    }
+}
+
 // The bits that the other word lacks.
 impl Sub for Word {
     type Output = Word;
@@ -188,6 +209,16 @@ impl Sub for Word {
     #[tactic(auto, using(crate::proofs::Bits::has_without, crate::proofs::Bits::without_fits))]
     fn sub(self, other: Word) -> Word {
         Word(self.0 ^ (self.0 & other.0))
+    }
+}
+
+// The same, put in place of the first word.
+impl SubAssign for Word {
+    ghost sub_assign_gives = { λ v w r. (x : ℕ) → has_bit r x ≡ (has_bit v x && not (has_bit w x)) };
+
+    #[inline]
+    fn sub_assign(&mut self, other: Word) {
+        *self = *self - other;
     }
 }
 
@@ -250,9 +281,8 @@ impl IntoIterator for Word {
     ghost into_iter_gives = { λ w r. (bits_word r ≡ w) × ((b : ℕ) → has_bit w b ≡ true → b < word_bits) × EachRunFrom YieldsBits r (GivesBelow word_bits (has_bit w)) };
 
     #[inline]
-    #[tactic(auto, using(crate::proofs::Bits::bits_within))]
     fn into_iter(self) -> Bits {
-        let _ = &self.0;
-        Bits { left: self }
+        // By its bits, which are known to be below 64, and not by `self`, of which that is not known.
+        Bits { left: Word(self.0) }
     }
 }

@@ -10,13 +10,14 @@ use native.Mathlib.Omega.{arith}
 use lib.Dec.{T, eqb, eqb→eq}
 use lib.ListN.{length, take, get_or}
 use lib.Seq.{length-take-le}
+use mir.Facts.{yes_eqb}
 use Rattle.std.proofs.Common.{Ok, Err}
 use Rattle.std.specs.List.Sorted.{IsBinarySearchResult}
 use Rattle.std.specs.Ordering.{nat_cmp}
 use Rattle.numbers.specs.Below.{some, those}
 use Rattle.numbers.specs.Lent.{Puts}
 use Rattle.cube.specs.Words.{on_set, off_set, cube_matches, implicant, essential, essentials_of}
-use Rattle.numbers.proofs.Bools.{and_l, and_r, and_i, same, eqb_of}
+use Rattle.numbers.proofs.Bools.{and_l, and_r, and_i, same}
 use Rattle.numbers.proofs.Below.{every_fails, some_at, some_by, some_same, those_same, those_none, those-length, those_ascend}
 use Rattle.numbers.proofs.Lent.{puts_same, puts_long, puts_over, puts_there, front_count, front_lent}
 use Rattle.cube.proofs.Rows.{agrees_is_cube}
@@ -98,7 +99,7 @@ module _ (n : ℕ) (t : List ℕ) where
       some_by (2 ^ n) (λ c. found_at n t c q) c f.below
       (and_i (on_set t c && implicant n t (vicinity n t c)) (eqb q (vicinity n t c))
       (and_i (on_set t c) (implicant n t (vicinity n t c)) f.wanted (subst⁻¹ (λ (p : ℕ). T (implicant n t p)) f.cube r.0))
-      (eqb_of q (vicinity n t c) (sym f.cube)))
+      (yes_eqb (sym f.cube)))
 
   pub found_all : found_below n t (2 ^ n) ≡ essentials_of n t
   unfolding found_below essentials_of

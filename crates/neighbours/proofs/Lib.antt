@@ -3,7 +3,6 @@
 pub mod Flipping
 pub mod Vicinity
 pub mod Theorems
-pub mod Scanning
 pub mod Reading
 pub mod Inserting
 pub mod Finding

@@ -7,10 +7,12 @@ use mathlib.Core.Bool.{Bool, not}
 use mathlib.Core.List.{List}
 use Prim.Native.Nat.{ℕ, ◌-◌, ◌^◌, ◌<◌}
 use native.Mathlib.Omega.{arith}
-use lib.Dec.{T, eqb, eqb→eq}
+use lib.Dec.{T, eqb, eqb→eq, T_not, not_T}
+use mir.Facts.{yes_eqb}
+use Rattle.std.proofs.lemmas.Bool.{cases_eq}
 use Rattle.numbers.specs.Below.{flag, word_of}
 use Rattle.cube.specs.Words.{on_set, off_set, fits, digit, cube_matches, digit_of, cube_of, implicant, prime, essential}
-use Rattle.numbers.proofs.Bools.{not_e, not_i, is_true, is_false, eqb_of, holds_or_not, eq_or_ne}
+use Rattle.numbers.proofs.Bools.{is_true, is_false, holds_or_not}
 use Rattle.numbers.proofs.Bits.{bit_of}
 use Rattle.cube.proofs.Digits.{bit, bit_at_lt, bit-weight, contained, contained_matches, matches_contained, digits_same, bits_same, fits_e, fits_two, fits_same}
 use Rattle.cube.proofs.Positions.{places_of, of_places}
@@ -53,7 +55,7 @@ matches_neighbour : (n p k c : ℕ) → digit k p ≡ 2 → T (cube_matches n p 
 matches_neighbour n p k c e m =
     of_places n p (neighbour k c) λ j l.
     ⊎_elim (λ x. fits_two (digit j p) (bit j (neighbour k c)) (ap (λ (i : ℕ). digit i p) x ∙ e))
-    (λ ne. subst⁻¹ (λ (b : ℕ). T (fits (digit j p) b)) (other_bit k j c ne) (places_of n p c m j l)) (eq_or_ne j k)
+    (λ ne. subst⁻¹ (λ (b : ℕ). T (fits (digit j p) b)) (other_bit k j c ne) (places_of n p c m j l)) (cases_eq j k)
 
 -- ---- the vicinity of a code
 
@@ -131,7 +133,7 @@ module _ (n : ℕ) (t : List ℕ) (c : ℕ) where
 
       differs : (j : ℕ) → T (all_but j) → j ≡ k → ⊥
       unfolding all_but
-      differs j d e = not_e (eqb j k) d (eqb_of j k e)
+      differs j d e = T_not (eqb j k) d (yes_eqb e)
 
       pair_matches : T (cube_matches n pair c)
       unfolding pair
@@ -144,19 +146,19 @@ module _ (n : ℕ) (t : List ℕ) (c : ℕ) where
       -- it matches no other code
       pair_alone : (x : ℕ) → x < 2 ^ n → T (cube_matches n pair x) → (x ≡ c) ⊎ (x ≡ neighbour k c)
       unfolding pair all_but
-      pair_alone x m y = ⊎_elim (λ e. inl (bits_same n x c m l (alike e))) (λ ne. inr (bits_same n x (neighbour k c) m (neighbour_lt n k c h l) (unlike ne))) (eq_or_ne (bit k x) (bit k c))
+      pair_alone x m y = ⊎_elim (λ e. inl (bits_same n x c m l (alike e))) (λ ne. inr (bits_same n x (neighbour k c) m (neighbour_lt n k c h l) (unlike ne))) (cases_eq (bit k x) (bit k c))
         where
           beside : (j : ℕ) → j < n → (j ≡ k → ⊥) → bit j x ≡ bit j c
-          beside j b ne = on_agrees n all_but c x y j b (not_i (eqb j k) (λ d. ne (eqb→eq j k d)))
+          beside j b ne = on_agrees n all_but c x y j b (not_T (eqb j k) (λ d. ne (eqb→eq j k d)))
 
           alike : bit k x ≡ bit k c → (j : ℕ) → j < n → bit j x ≡ bit j c
-          alike e j b = ⊎_elim (λ d. subst⁻¹ (λ (i : ℕ). bit i x ≡ bit i c) d e) (beside j b) (eq_or_ne j k)
+          alike e j b = ⊎_elim (λ d. subst⁻¹ (λ (i : ℕ). bit i x ≡ bit i c) d e) (beside j b) (cases_eq j k)
 
           unlike : (bit k x ≡ bit k c → ⊥) → (j : ℕ) → j < n → bit j x ≡ bit j (neighbour k c)
           unlike ne j b =
               let other : bit k x ≡ 1 - bit k c = omega (arith, bit_at_lt k x, bit_at_lt k c, ne) in
               ⊎_elim (λ d. subst⁻¹ (λ (i : ℕ). bit i x ≡ bit i (neighbour k c)) d (other ∙ sym (flipped_bit k c)))
-              (λ d. beside j b d ∙ sym (other_bit k j c d)) (eq_or_ne j k)
+              (λ d. beside j b d ∙ sym (other_bit k j c d)) (cases_eq j k)
 
       pair_implicant : T (implicant n t pair)
       pair_implicant =

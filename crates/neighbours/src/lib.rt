@@ -18,7 +18,8 @@ ghost use Rattle.neighbours.specs.Steps.{found_below, inserted_at, FoundSoFar};
 use cube::Refusal;
 use tables::Table;
 
-// Puts q before place `at` of the first places, each of those behind it one place on, and returns how many there are then.
+// Puts q before place `at` of the first places, each of those behind it one place on, and returns how many there are then. The places are the caller's, as
+// C lends them, here and in `add_vicinity`, with the count beside them.
 fn insert_at(q: u16, at: usize, list: &mut [u16], count: usize) -> usize
     requires { (at ≤ count) × (count < length list.old) }
     ensures { Puts (inserted_at at q (take count list.old)) list.old 0 list.new result }
@@ -29,7 +30,7 @@ fn insert_at(q: u16, at: usize, list: &mut [u16], count: usize) -> usize
 }
 
 // Lists the vicinity of a wanted code, unless it is listed already or matches a barred code, and returns how many are listed.
-fn add_vicinity(table: Table<'_>, c: usize, out: &mut [u16], count: usize) -> usize
+fn add_vicinity(table: Table, c: usize, out: &mut [u16], count: usize) -> usize
     requires found { FoundSoFar table.width table.cells.now out.old c count }
     requires code { c < length table.cells.now }
     requires wanted { on_set table.cells.now c ≡ true }
@@ -45,7 +46,7 @@ fn add_vicinity(table: Table<'_>, c: usize, out: &mut [u16], count: usize) -> us
 }
 
 // Lists the essential primes of a table, ascending, and returns their number.
-fn list_essentials(table: Table<'_>, out: &mut [u16]) -> usize
+fn list_essentials(table: Table, out: &mut [u16]) -> usize
     requires { 3 ^ table.width ≤ length out.old }
     ensures { Puts (essentials_of table.entry.width table.entry.cells.now) out.old 0 out.new result }
 {

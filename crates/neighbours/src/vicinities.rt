@@ -14,7 +14,7 @@ pub struct Kept {
 }
 
 // What is kept so far, with bit k: it is kept if flipping it gives a barred code.
-fn with_bit(table: Table<'_>, c: usize, k: usize, kept: Kept) -> Kept
+fn with_bit(table: Table, c: usize, k: usize, kept: Kept) -> Kept
     requires bit { k < table.width }
     requires code { c < length table.cells.now }
     requires small { (kept.bits < 2 ^ widest) × (kept.cube < 3 ^ widest) }
@@ -34,7 +34,7 @@ fn with_bit(table: Table<'_>, c: usize, k: usize, kept: Kept) -> Kept
 }
 
 // What code c keeps, from the first bit on.
-pub fn kept_bits(table: Table<'_>, c: usize) -> Kept
+pub fn kept_bits(table: Table, c: usize) -> Kept
     requires { c < length table.cells.now }
     ensures { KeptOf table.entry.width table.entry.cells.now c result }
 {
@@ -46,7 +46,7 @@ pub fn kept_bits(table: Table<'_>, c: usize) -> Kept
 }
 
 // Whether some barred code agrees with code c in these bits.
-pub fn matches_barred(table: Table<'_>, c: usize, bits: usize) -> bool
+pub fn matches_barred(table: Table, c: usize, bits: usize) -> bool
     ensures { result ≡ some (length table.entry.cells.now) (barred_match table.entry.cells.now c bits) }
 {
     table

@@ -7,11 +7,14 @@ use mathlib.Core.List.{List, [], ◌∷◌, ◌++◌, append-nil, append_assoc}
 use Prim.Native.Nat.{ℕ, zero, suc, ◌+◌, ◌<◌, ◌≤◌}
 use native.Mathlib.Nat.{not-suc-le-zero, le_of_suc-le-suc, eq-or-lt_of_le, lt-suc_self, add-zero, zero-add, add-suc, suc-add}
 use native.Mathlib.Omega.{arith}
-use lib.Dec.{T, eqb, eqb→eq, eqb_refl, lit<}
+use lib.Dec.{T, eqb, eqb→eq, eqb_refl, lit<, T_not, not_T}
 use lib.ListN.{length, length-append, get_or, get_or-append}
 use lib.Seq.{get_or-append_seam}
+use Rattle.std.specs.Bool.{passes}
+use Rattle.std.specs.List.{list_any}
+use Rattle.std.proofs.lemmas.Bool.{cases_lt}
 use Rattle.numbers.specs.Below.{flag, every, some, those, count, EachOnce, tabulate}
-use Rattle.numbers.proofs.Bools.{and_l, and_r, and_i, or_e, or_l, or_r, or_exchange, not_e, not_i, same, is_true, is_false, holds, lt_or_le}
+use Rattle.numbers.proofs.Bools.{and_l, and_r, and_i, or_e, or_l, or_r, or_exchange, same, is_true, is_false}
 
 -- ---- every and some
 
@@ -45,14 +48,14 @@ some_by (suc m) f k l h =
     (eq-or-lt_of_le (le_of_suc-le-suc l))
 
 pub none_at : (m : ℕ) (f : ℕ → Bool) → T (not (some m f)) → (k : ℕ) → k < m → T (f k) → ⊥
-none_at m f h k l x = not_e (some m f) h (some_by m f k l x)
+none_at m f h k l x = T_not (some m f) h (some_by m f k l x)
 
 pub none_by : (m : ℕ) (f : ℕ → Bool) → ((k : ℕ) → k < m → T (f k) → ⊥) → T (not (some m f))
-none_by m f h = not_i (some m f) (λ s. let r = some_at m f s in h r.0 r.1 r.2)
+none_by m f h = not_T (some m f) (λ s. let r = some_at m f s in h r.0 r.1 r.2)
 
 -- as a loop finds it: one that passes, or none below the bound
 pub some_found : (m : ℕ) (f : ℕ → Bool) (k : ℕ) → k < m → f k ≡ true → some m f ≡ true
-some_found m f k l e = is_true (some m f) (some_by m f k l (holds (f k) e))
+some_found m f k l e = is_true (some m f) (some_by m f k l (passes (f k) e))
 
 pub some_none : (m : ℕ) (f : ℕ → Bool) → ((k : ℕ) → k < m → f k ≡ false) → some m f ≡ false
 some_none m f h = is_false (some m f) (λ s. let r = some_at m f s in subst T (h r.0 r.1) r.2)
@@ -79,6 +82,15 @@ pub some_front : (m : ℕ) (f : ℕ → Bool) → some (suc m) f ≡ (f 0 || som
 unfolding some
 some_front zero f = refl
 some_front (suc m) f = ap (λ (b : Bool). f (suc m) || b) (some_front m f) ∙ or_exchange (f (suc m)) (f 0) (some m (λ k. f (suc k)))
+
+-- what `any` answers over a list of m items, where item i passes f as number i passes g
+pub any_is_some : {A : Type 0} (f : A → Bool) (g : ℕ → Bool) (d : A) (xs : List A) {m : ℕ} → length xs ≡ m → ((i : ℕ) → i < m → f (get_or xs i d) ≡ g i)
+    → list_any f xs ≡ some m g
+unfolding some
+any_is_some f g d [] e h = ap (λ (k : ℕ). some k g) e
+any_is_some f g d (x ∷ xs) e h =
+    ap₂ ◌||◌ (h 0 (omega arith)) (any_is_some f (λ i. g (suc i)) d xs refl (λ i l. h (suc i) (omega arith))) ∙ sym (some_front (length xs) g)
+    ∙ ap (λ (k : ℕ). some k g) e
 
 -- ---- those that pass
 
@@ -149,7 +161,7 @@ lowest_or_none (suc m) f = ⊎_elim found (λ none. go none (f m) refl) (lowest_
 
     go : ((k : ℕ) → k < m → T (f k) → ⊥) → (b : Bool) → f m ≡ b
         → ((k : ℕ) × Lowest (suc m) f k) ⊎ ((k : ℕ) → k < suc m → T (f k) → ⊥)
-    go none true e = inl (m, record { below = lt-suc_self m; passes = holds (f m) e; none_lower = none })
+    go none true e = inl (m, record { below = lt-suc_self m; passes = passes (f m) e; none_lower = none })
     go none false e =
         inr (λ k l x. ⊎_elim (λ i. subst T (ap f i ∙ e) x) (λ i. none k i x) (eq-or-lt_of_le (le_of_suc-le-suc l)))
 
@@ -169,7 +181,7 @@ module _ (f g h : ℕ → Bool) (s : ℕ) where
 
   split_step : (m : ℕ) → Parts (suc m) → those m f ≡ those m g ++ those m h → those (suc m) f ≡ those (suc m) g ++ those (suc m) h
   unfolding those
-  split_step m p ih = ⊎_elim high low (lt_or_le m s)
+  split_step m p ih = ⊎_elim high low (cases_lt m s)
     where
       low : s ≤ m → those m f ++ cond (f m) (m ∷ []) [] ≡ (those m g ++ cond (g m) (m ∷ []) []) ++ (those m h ++ cond (h m) (m ∷ []) [])
       low x =
@@ -222,7 +234,7 @@ module _ (f : ℕ → Bool) where
   one_passes : (m i j : ℕ) → length (those m f) ≡ 1 → i < m → j < m → T (f i) → T (f j) → i ≡ j
   one_passes m i j e l k x y =
       ⊎_elim (λ a. absurd (two_pass i j a k x y)) (λ a. ⊎_elim (λ b. sym b) (λ b. absurd (two_pass j i b l y x)) (eq-or-lt_of_le a))
-      (lt_or_le i j)
+      (cases_lt i j)
     where
       passes : (i : ℕ) → T (f i) → flag (f i) ≡ 1
       passes i x = ap flag (is_true (f i) x)
@@ -282,7 +294,7 @@ passing_more f m xs p false e = subst⁻¹ (Passing f (suc m)) (append-nil xs) (
 passing_more f m xs p true e = record { at = at; ascends = ascends }
   where
     place : (i : ℕ) → i < length (xs ++ (m ∷ [])) → (i < length xs) ⊎ (i ≡ length xs)
-    place i l = ⊎_elim (λ k. inl k) (λ k. let h : length (xs ++ (m ∷ [])) ≡ length xs + 1 = length-append xs (m ∷ []) in inr (omega arith)) (lt_or_le i (length xs))
+    place i l = ⊎_elim (λ k. inl k) (λ k. let h : length (xs ++ (m ∷ [])) ≡ length xs + 1 = length-append xs (m ∷ []) in inr (omega arith)) (cases_lt i (length xs))
 
     last : (i : ℕ) → i ≡ length xs → get_or (xs ++ (m ∷ [])) i 0 ≡ m
     last i k = ap (λ (j : ℕ). get_or (xs ++ (m ∷ [])) j 0) k ∙ get_or-append_seam xs m [] 0
@@ -290,7 +302,7 @@ passing_more f m xs p true e = record { at = at; ascends = ascends }
     at : (i : ℕ) → i < length (xs ++ (m ∷ [])) → (get_or (xs ++ (m ∷ [])) i 0 < suc m) × T (f (get_or (xs ++ (m ∷ [])) i 0))
     at i l =
         ⊎_elim (λ k. subst⁻¹ (λ (x : ℕ). (x < suc m) × T (f x)) (get_or-append xs (m ∷ []) 0 i k) (let h = p.at i k in (omega (arith, h.0), h.1)))
-        (λ k. subst⁻¹ (λ (x : ℕ). (x < suc m) × T (f x)) (last i k) (lt-suc_self m, holds (f m) e)) (place i l)
+        (λ k. subst⁻¹ (λ (x : ℕ). (x < suc m) × T (f x)) (last i k) (lt-suc_self m, passes (f m) e)) (place i l)
 
     ascends : (i j : ℕ) → i < j → j < length (xs ++ (m ∷ [])) → get_or (xs ++ (m ∷ [])) i 0 < get_or (xs ++ (m ∷ [])) j 0
     ascends i j l k =

@@ -10,8 +10,8 @@ use native.Mathlib.Omega.{arith}
 use lib.Dec.{ltb, lit<}
 use lib.Pow.{pow_pos, pow-add, pow_mono}
 use borrow.Author.Tests.{lt-ltb, le-ltb}
+use Rattle.std.proofs.lemmas.Bool.{cases_lt}
 use Rattle.numbers.specs.Below.{flag, some, word_of}
-use Rattle.numbers.proofs.Bools.{lt_or_le}
 use Rattle.numbers.proofs.Below.{flag_lt}
 
 flag_times : (b : Bool) (x : ℕ) → flag b * x ≤ x
@@ -70,7 +70,7 @@ bit_of (suc m) f c l = ⊎_elim here (λ k. there k (bit_of m f c k)) (eq-or-lt_
         ap (λ (x : ℕ). x % 2) d ∙ even (word_of m f / 2 ^ c) (b * 2 ^ i) ∙ ih
 
 pub bit_word : (m : ℕ) (f : ℕ → Bool) (c : ℕ) → word_of m f / 2 ^ c % 2 ≡ flag (ltb c m && f c)
-bit_word m f c = ⊎_elim inside outside (lt_or_le c m)
+bit_word m f c = ⊎_elim inside outside (cases_lt c m)
   where
     inside : c < m → word_of m f / 2 ^ c % 2 ≡ flag (ltb c m && f c)
     inside l = bit_of m f c l ∙ sym (ap (λ (b : Bool). flag (b && f c)) (lt-ltb c m l))

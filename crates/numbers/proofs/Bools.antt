@@ -1,10 +1,8 @@
--- Tests as propositions, by `T`: what &&, ||, not and comparisons of numbers say. `Flags` has tests as equations. Assumes nothing.
-use mathlib.Core.Path.{◌≡◌, refl, subst, subst⁻¹}
+-- Tests as propositions, by `T`: what &&, || and not say. `Flags` has tests as equations. Assumes nothing.
+use mathlib.Core.Path.{◌≡◌, refl}
 use mathlib.Core.Logic.{◌⊎◌, inl, inr}
 use mathlib.Core.Bool.{Bool, true, false, not, ◌&&◌, ◌||◌}
-use Prim.Native.Nat.{ℕ, ◌<◌, ◌≤◌}
-use lib.Dec.{T, eqb, ltb, eqb_refl}
-use borrow.Author.Tests.{ltb-true, ltb-false, eqb-true, eqb-false}
+use lib.Dec.{T}
 
 pub and_l : (a b : Bool) → T (a && b) → T a
 and_l true b h = tt
@@ -63,14 +61,6 @@ nand_i true true f = f tt tt
 nand_i true false f = tt
 nand_i false b f = tt
 
-pub not_e : (a : Bool) → T (not a) → T a → ⊥
-not_e true h x = h
-not_e false h x = x
-
-pub not_i : (a : Bool) → (T a → ⊥) → T (not a)
-not_i true f = f tt
-not_i false f = tt
-
 -- two tests that hold in the same cases are the same
 pub same : (a b : Bool) → (T a → T b) → (T b → T a) → a ≡ b
 same true true f g = refl
@@ -86,26 +76,6 @@ pub is_false : (a : Bool) → (T a → ⊥) → a ≡ false
 is_false true h = absurd (h tt)
 is_false false h = refl
 
-pub holds : (a : Bool) → a ≡ true → T a
-holds a e = subst⁻¹ T e tt
-
-pub eqb_of : (a b : ℕ) → a ≡ b → T (eqb a b)
-eqb_of a b e = subst (λ (i : ℕ). T (eqb a i)) e (eqb_refl a)
-
 pub holds_or_not : (a : Bool) → T a ⊎ (T a → ⊥)
 holds_or_not true = inl tt
 holds_or_not false = inr (λ h. h)
-
-pub lt_or_le : (a b : ℕ) → (a < b) ⊎ (b ≤ a)
-lt_or_le a b = go (ltb a b) refl
-  where
-    go : (t : Bool) → ltb a b ≡ t → (a < b) ⊎ (b ≤ a)
-    go true e = inl (ltb-true a b e)
-    go false e = inr (ltb-false a b e)
-
-pub eq_or_ne : (a b : ℕ) → (a ≡ b) ⊎ (a ≡ b → ⊥)
-eq_or_ne a b = go (eqb a b) refl
-  where
-    go : (t : Bool) → eqb a b ≡ t → (a ≡ b) ⊎ (a ≡ b → ⊥)
-    go true e = inl (eqb-true a b e)
-    go false e = inr (eqb-false a b e)

@@ -7,8 +7,9 @@ use Prim.Native.Nat.{ℕ, ◌<◌, ◌≤◌}
 use native.Mathlib.Omega.{arith}
 use lib.Dec.{T, eqb, eqb→eq}
 use lib.ListN.{length}
+use Rattle.std.specs.Bool.{passes}
 use Rattle.numbers.specs.Below.{among}
-use Rattle.numbers.proofs.Bools.{or_e, or_l, or_r, holds}
+use Rattle.numbers.proofs.Bools.{or_e, or_l, or_r}
 
 module _ (f : ℕ → Bool) where
   -- those of the list that pass
@@ -26,7 +27,7 @@ module _ (f : ℕ → Bool) where
           → T (eqb q p || among q qs) × T (f q)
       go false e ih x = let r = ih x in (or_r (eqb q p) (among q qs) r.0, r.1)
       go true e ih x =
-          ⊎_elim (λ y. (or_l (eqb q p) (among q qs) y, subst⁻¹ (λ (i : ℕ). T (f i)) (eqb→eq q p y) (holds (f p) e)))
+          ⊎_elim (λ y. (or_l (eqb q p) (among q qs) y, subst⁻¹ (λ (i : ℕ). T (f i)) (eqb→eq q p y) (passes (f p) e)))
           (λ y. let r = ih y in (or_r (eqb q p) (among q qs) r.0, r.1)) (or_e (eqb q p) (among q (kept qs)) x)
 
   -- and each that does is among them
@@ -57,6 +58,6 @@ module _ (f : ℕ → Bool) where
     where
       go : (b : Bool) → f p ≡ b → length (kept qs) ≤ length qs → (T (among q qs) → length (kept qs) < length qs) → T (eqb q p) ⊎ T (among q qs)
           → length (cond b (p ∷ kept qs) (kept qs)) < length (p ∷ qs)
-      go true e m ih (inl x) = absurd (h (subst⁻¹ (λ (i : ℕ). T (f i)) (eqb→eq q p x) (holds (f p) e)))
+      go true e m ih (inl x) = absurd (h (subst⁻¹ (λ (i : ℕ). T (f i)) (eqb→eq q p x) (passes (f p) e)))
       go true e m ih (inr x) = omega (arith, ih x)
       go false e m ih x = omega arith

@@ -1,15 +1,14 @@
--- Writing into a lent list from the front: runs of stores that join, a part of the list that is lent on for a copy, a list over one that is not longer, a
--- pass that stores a value for each number that passes a test, and a pass that fills a list with a function's values. Assumes nothing.
+-- Writing into a lent list from the front: runs of stores that join, a part of the list that is lent on for a copy, a list over one that is not longer, and
+-- a pass that stores a value for each number that passes a test. Assumes nothing.
 use mathlib.Core.Path.{◌≡◌, refl, sym, ap, ap₂, ◌∙◌, subst, subst₂}
 use mathlib.Core.Bool.{Bool, true, false, cond}
-use mathlib.Core.List.{List, [], ◌∷◌, ◌++◌, append-nil, append_assoc, map, map-id}
+use mathlib.Core.List.{List, [], ◌∷◌, ◌++◌, append-nil, append_assoc, map}
 use Prim.Native.Nat.{ℕ, suc, ◌+◌, ◌-◌, ◌<◌, ◌≤◌}
 use native.Mathlib.Nat.{zero-add, add-zero, add-suc, suc-add}
 use native.Mathlib.Numerals.{add-one}
 use native.Mathlib.Omega.{arith}
-use lib.ListN.{length, length-append, length-map, set, take, drop, drop_of_length-le, take-append-drop, get_or, get_or-append}
-use lib.Seq.{sets, length-sets, sets-eq, take-length, length-take-le, drop-append-add, drop-drop, get_or-set_same, get_or-set_other}
-use borrow.Author.Count.{below_more}
+use lib.ListN.{length, length-append, length-map, set, take, drop, drop_of_length-le, take-append-drop, get_or}
+use lib.Seq.{sets, length-sets, sets-eq, take-length, length-take-le, drop-append-add, drop-drop, get_or-set_other}
 use borrow.Rule.Slice.PartMut.{mid_of, put_mid, mid_len, Post-is}
 use borrow.Table.Elements.{map_app}
 use Rattle.numbers.specs.Below.{those}
@@ -26,9 +25,6 @@ sets_append l i (x ∷ xs) ys =
 -- a run of stores from the front: the list is there, and after it what was there before
 pub sets_front : (xs old : List ℕ) → length xs ≤ length old → sets old 0 xs ≡ xs ++ drop (length xs) old
 sets_front xs old h = sets-eq xs old 0 (omega arith) ∙ ap (λ (i : ℕ). xs ++ drop i old) (zero-add (length xs))
-
-pub sets_at : (xs old : List ℕ) (i : ℕ) → length xs ≤ length old → i < length xs → get_or (sets old 0 xs) i 0 ≡ get_or xs i 0
-sets_at xs old i h l = ap (λ (l : List ℕ). get_or l i 0) (sets_front xs old h) ∙ get_or-append xs (drop (length xs) old) 0 i l
 
 -- what comes after a run of stores is as it was
 pub sets_behind : (xs l : List ℕ) (i j : ℕ) → i + length xs ≤ j → get_or (sets l i xs) j 0 ≡ get_or l j 0
@@ -151,9 +147,6 @@ module _ (g : ℕ → ℕ) (f : ℕ → Bool) (old : List ℕ) where
     pub collect_le : count ≤ m
     collect_le = omega (arith, those-length f m, collect_counts)
 
-    pub collect_long : length new ≡ length old
-    collect_long = puts_long h.puts
-
     -- as the two arms of a pass leave the list and the count
     pub collect_yes : {new' : List ℕ} {count' : ℕ} → f m ≡ true → new' ≡ set new count (g m) → count' ≡ count + 1 → Collected g f old new' (m + 1) count'
     collect_yes e a b =
@@ -165,19 +158,3 @@ module _ (g : ℕ → ℕ) (f : ℕ → Bool) (old : List ℕ) where
     collect_no e a b =
         let same = those_more m f false e ∙ append-nil (those m f) in
         subst₂ (λ (l : List ℕ) (k : ℕ). Collected g f old l (m + 1) k) (sym a) (sym b) (record { puts = puts_same (ap (map g) (sym same)) h.puts })
-
-    -- all of it, where m is the end of the pass
-    pub collected : {k : ℕ} → m ≡ k → Puts (map g (those k f)) old 0 new count
-    collected e = puts_same (ap (λ (i : ℕ). map g (those i f)) e) h.puts
-
--- where each number is stored itself
-pub collected_numbers : (f : ℕ → Bool) (old new : List ℕ) (m count : ℕ) → Collected (λ i. i) f old new m count → {k : ℕ} → m ≡ k
-    → Puts (those k f) old 0 new count
-collected_numbers f old new m count h {k} e = puts_same (map-id (those k f)) (collected (λ i. i) f old new m count h e)
-
--- ---- a function's values, stored one by one
-
-pub fill_more : (g : ℕ → ℕ) (fs : List ℕ) (q x : ℕ) → q < length fs → ((k : ℕ) → k < q → get_or fs k 0 ≡ g k) → x ≡ g q
-    → (k : ℕ) → k < q + 1 → get_or (set fs q x) k 0 ≡ g k
-fill_more g fs q x l m e =
-    below_more (λ k. get_or (set fs q x) k 0 ≡ g k) q (λ k h. get_or-set_other fs q k x 0 (λ d. omega arith) ∙ m k h) (get_or-set_same fs q x 0 l ∙ e)

@@ -14,9 +14,10 @@ use Rattle.std.specs.Prelude.{Option, None, Some, IfSome, slice_get}
 use Rattle.std.specs.Iterator.{Yields, MakesProgress}
 use Rattle.std.specs.Iterator.Runs.{Run, EachRunFrom}
 use Rattle.std.proofs.iter.runs.Made.{took, at-is}
+use Rattle.std.proofs.lemmas.Bool.{and_parts, and_from, false_from_ne_true}
 use Rattle.numbers.specs.Below.{those}
 use Rattle.numbers.specs.Ascending.{TakesLeast, YieldsBelow, left_count, passed, GivesThose, GivesLeast, GivesEach, GivesAll, GivesBelow}
-use Rattle.numbers.proofs.Flags.{clash, both_of, of_both, not_set}
+use Rattle.numbers.proofs.Flags.{clash}
 use Rattle.numbers.proofs.Below.{those_none, those_same}
 
 -- ---- the measure: fewer numbers are left after an item
@@ -59,7 +60,7 @@ module _ {S : Type 0} {end : S → ℕ} {left : S → ℕ → Bool} where
   fewer_left {s} {t} {x} h =
       subst (λ (m : ℕ). length (those m (left t)) < length (those (end s) (left s))) (sym h.bound)
       (those_less (end s) (left s) (left t) x h.within h.here
-      (h.above x ∙ ap (λ (b : Bool). b && left s x) (le-ltb x x (omega arith))) (λ j k. (both_of (ltb x j) (left s j) (h.above j) k).1))
+      (h.above x ∙ ap (λ (b : Bool). b && left s x) (le-ltb x x (omega arith))) (λ j k. (and_parts _ _ (sym (h.above j) ∙ k)).1))
 
   -- what `next` owes of an item, where it may always be called
   pub progress : {can : S → Type 0} {s t : S} {x : ℕ} → ((s : S) → can s) → TakesLeast end left s x t → MakesProgress can (left_count end left) s (Some x) t
@@ -97,9 +98,6 @@ those_same_end m (suc n) f l h = go (dec_lt n m) (λ k. those_same_end m n f k (
 
 -- ---- how far a loop has come
 
-pub passed_none : passed [] ≡ 0
-passed_none = refl
-
 pub passed_more : (ys : List ℕ) (x : ℕ) → passed (ys ++ x ∷ []) ≡ x + 1
 passed_more [] x = refl
 passed_more (y ∷ []) x = refl
@@ -129,7 +127,7 @@ module _ {S : Type 0} (end : S → ℕ) (left : S → ℕ → Bool) where
   rises : (y : ℕ) (ys : List ℕ) (a s : S) → Yields (YieldsBelow end left) a (y ∷ ys) s → y + length (y ∷ ys) ≤ passed (y ∷ ys)
   rises y [] a s h = omega arith
   rises y (z ∷ ys) a s h =
-      let e : ltb y z ≡ true = (both_of (ltb y z) (left a z) (h.1.above z) h.2.1.here).0 in
+      let e : ltb y z ≡ true = (and_parts _ _ (sym (h.1.above z) ∙ h.2.1.here)).0 in
       omega (arith, ltb-true y z e, rises z ys h.0 s h.2)
 
   so_far : (ys : List ℕ) (a s : S) → Yields (YieldsBelow end left) a ys s → SoFar a s ys
@@ -139,7 +137,7 @@ module _ {S : Type 0} (end : S → ℕ) (left : S → ℕ → Bool) where
       (record { bound = h.1.bound; still = λ j. h.1.above j ∙ ap (λ (n : ℕ). leb n j && left a j) (sym (add-one x)); within = omega (arith, h.1.within) })
   so_far (x ∷ y ∷ ys) a s h =
       let r = so_far (y ∷ ys) h.0 s h.2 in
-      let up : x < passed (y ∷ ys) = omega (arith, ltb-true x y (both_of (ltb x y) (left a y) (h.1.above y) h.2.1.here).0, rises y ys h.0 s h.2) in
+      let up : x < passed (y ∷ ys) = omega (arith, ltb-true x y (and_parts _ _ (sym (h.1.above y) ∙ h.2.1.here)).0, rises y ys h.0 s h.2) in
       record {
         bound = r.bound ∙ h.1.bound;
         still = λ j. r.still j ∙ ap (λ (b : Bool). leb (passed (y ∷ ys)) j && b) (h.1.above j) ∙ skip (passed (y ∷ ys)) j up;
@@ -161,7 +159,7 @@ module _ {S : Type 0} (end : S → ℕ) (left : S → ℕ → Bool) where
       let n : those (x + 1) (left h.0) ≡ [] = those_none (x + 1) (left h.0) (λ j l t. subst T (h.1.above j ∙ ap (λ (b : Bool). b && left a j) (le-ltb x j (omega arith))) t) in
       ap (λ (ys : List ℕ). x ∷ ys) (sym n) ∙ sym (those_front (x + 1) (left a) (left h.0) x (omega arith) h.1.here h.1.before h.1.above)
   items_are (x ∷ y ∷ ys) a s h =
-      let up : x < passed (y ∷ ys) = omega (arith, ltb-true x y (both_of (ltb x y) (left a y) (h.1.above y) h.2.1.here).0, rises y ys h.0 s h.2) in
+      let up : x < passed (y ∷ ys) = omega (arith, ltb-true x y (and_parts _ _ (sym (h.1.above y) ∙ h.2.1.here)).0, rises y ys h.0 s h.2) in
       ap (λ (ys : List ℕ). x ∷ ys) (items_are (y ∷ ys) h.0 s h.2) ∙ sym (those_front (passed (y ∷ ys)) (left a) (left h.0) x up h.1.here h.1.before h.1.above)
 
   -- an item of the loop
@@ -170,7 +168,7 @@ module _ {S : Type 0} (end : S → ℕ) (left : S → ℕ → Bool) where
   turn_in a s t ys r x y n e =
       let h = so_far ys a s y in
       let k : TakesLeast end left s x t = subst (λ (r : Option ℕ). YieldsBelow end left s r t) e n in
-      let i = both_of (leb (passed ys) x) (left a x) (h.still x) k.here in
+      let i = and_parts _ _ (sym (h.still x) ∙ k.here) in
       record {
         within = omega (arith, k.within, h.bound);
         here = i.1;
@@ -188,12 +186,12 @@ module _ {S : Type 0} (end : S → ℕ) (left : S → ℕ → Bool) where
       record {
         within = h.within;
         all = all;
-        items = items_are ys a s y ∙ those_same_end (passed ys) (end a) (left a) h.within (λ j l m. not_set (left a j) (λ p. omega (arith, all j m p)));
+        items = items_are ys a s y ∙ those_same_end (passed ys) (end a) (left a) h.within (λ j l m. false_from_ne_true (left a j) (λ p. omega (arith, all j m p)));
       }
     where
       go : (j : ℕ) → j < end a → left a j ≡ true → Dec (j < passed ys) → left s j ≡ false → left s j ≡ (leb (passed ys) j && left a j) → j < passed ys
       go j l p (yes m) q h = m
-      go j l p (no m) q h = clash (of_both h (le-leb (passed ys) j (omega arith)) p) q
+      go j l p (no m) q h = clash (h ∙ and_from _ _ (le-leb (passed ys) j (omega arith)) p) q
 
   -- ---- a run, item by item
 
@@ -204,7 +202,7 @@ module _ {S : Type 0} (end : S → ℕ) (left : S → ℕ → Bool) where
     where
       go : (o : Option ℕ) → IfSome o (λ y. (y < end h.0) × (left h.0 y ≡ true)) → IfSome o (λ y. (y < end a) × (left a y ≡ true))
       go None i = tt
-      go (Some y) i = (omega (arith, i.0, h.1.bound), (both_of (ltb x y) (left a y) (h.1.above y) i.1).1)
+      go (Some y) i = (omega (arith, i.0, h.1.bound), (and_parts _ _ (sym (h.1.above y) ∙ i.1)).1)
 
   each_at : (xs : List ℕ) (a s : S) → Yields (YieldsBelow end left) a xs s → (j : ℕ) → left a j ≡ true → j < passed xs → (k : ℕ) × (k < length xs) × (slice_get xs k ≡ Some j)
   each_at [] a s h j p l = absurd (omega arith)
@@ -218,7 +216,7 @@ module _ {S : Type 0} (end : S → ℕ) (left : S → ℕ → Bool) where
       go : Dec (j < x) → Dec (x < j) → (left h.0 j ≡ true → (k : ℕ) × (k < length (y ∷ ys)) × (slice_get (y ∷ ys) k ≡ Some j))
           → (k : ℕ) × (k < length (x ∷ y ∷ ys)) × (slice_get (x ∷ y ∷ ys) k ≡ Some j)
       go (yes m) d f = clash p (h.1.before j m)
-      go (no n) (yes m) f = let r = f (of_both (h.1.above j) (lt-ltb x j m) p) in (suc r.0, omega (arith, r.1), r.2)
+      go (no n) (yes m) f = let r = f (h.1.above j ∙ and_from _ _ (lt-ltb x j m) p) in (suc r.0, omega (arith, r.1), r.2)
       go (no n) (no m) f = (zero, omega arith, ap Some (omega arith))
 
   -- an item is yielded after those before it

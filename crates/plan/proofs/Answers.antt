@@ -11,15 +11,12 @@ use Rattle.cube.proofs.Calls.{answered_gives, answered_refuses}
 use Rattle.plan.specs.Plan.{plan_refuses, totals_of, Plans}
 use Rattle.plan.specs.declared.Totals.{Totals}
 
-module _ (n : ℕ) (t values cares values' cares' : List ℕ) where
-  abbrev refusal : ℕ
-  refusal = plan_refuses n t (length values) (length cares)
+module _ {n : ℕ} {t values cares values' cares' : List ℕ} where
+  module _ {totals : Totals} (p : Plans n t values cares values' cares' (Ok totals)) where
+    accepted_with : (plan_refuses n t (length values) (length cares) ≡ 0) × (totals ≡ totals_of n p.list)
+    accepted_with = answered_gives (plan_refuses n t (length values) (length cares)) totals (totals_of n p.list) p.answer
 
-  module _ (totals : Totals) (p : Plans n t values cares values' cares' (Ok totals)) where
-    accepted_with : (refusal ≡ 0) × (totals ≡ totals_of n p.list)
-    accepted_with = answered_gives refusal totals (totals_of n p.list) p.answer
-
-    pub not_refused : refusal ≡ 0
+    pub not_refused : plan_refuses n t (length values) (length cares) ≡ 0
     not_refused = accepted_with.0
 
     pub totals_are : totals ≡ totals_of n p.list
@@ -31,10 +28,13 @@ module _ (n : ℕ) (t values cares values' cares' : List ℕ) where
     pub bits_is : totals.bits ≡ cover_literals n p.list
     bits_is = ap (λ (x : Totals). x.bits) totals_are
 
-  module _ (e : Refusal) (p : Plans n t values cares values' cares' (Err e)) where
-    -- a call for which no named condition holds is not refused
-    pub accepted_refused : refusal ≡ 0 → ⊥
-    accepted_refused = (answered_refuses (refusal_number e) refusal (totals_of n p.list) p.answer).1
+  module _ {e : Refusal} (p : Plans n t values cares values' cares' (Err e)) where
+    refused_with : (plan_refuses n t (length values) (length cares) ≡ refusal_number e) × (plan_refuses n t (length values) (length cares) ≡ 0 → ⊥)
+    refused_with = answered_refuses (refusal_number e) (plan_refuses n t (length values) (length cares)) (totals_of n p.list) p.answer
 
-    pub refused_by : refusal ≡ refusal_number e
-    refused_by = (answered_refuses (refusal_number e) refusal (totals_of n p.list) p.answer).0
+    -- a call for which no named condition holds is not refused
+    pub accepted_refused : plan_refuses n t (length values) (length cares) ≡ 0 → ⊥
+    accepted_refused = refused_with.1
+
+    pub refused_by : plan_refuses n t (length values) (length cares) ≡ refusal_number e
+    refused_by = refused_with.0

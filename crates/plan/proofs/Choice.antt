@@ -8,11 +8,12 @@ use native.Mathlib.Omega.{arith}
 use lib.Dec.{T, leb, le→leb, ltb, ltb→lt, lt→ltb}
 use lib.ListN.{length, length-map, get_or}
 use Rattle.std.proofs.lemmas.List.{get_or-map}
+use Rattle.std.specs.Bool.{passes}
 use Rattle.numbers.specs.Below.{those, word_of}
 use Rattle.cube.specs.Words.{on_set, Cover, cover_literals, row_of, serving_primes_of}
 use Rattle.cube.specs.Calls.{widest}
 use Rattle.cube.specs.Minimum.{Minimum}
-use Rattle.numbers.proofs.Bools.{and_l, and_r, and_i, is_true, holds}
+use Rattle.numbers.proofs.Bools.{and_l, and_r, and_i, is_true}
 use Rattle.numbers.proofs.Below.{those_ascend}
 use Rattle.cube.proofs.Calls.{code_pairs_most}
 use Rattle.cube.proofs.Minimum.{minimum_rows}
@@ -38,7 +39,7 @@ module _ (n : ℕ) (t : List ℕ) where
 
   wanted_columns : (c : ℕ) → In wanted_word c → (c < 2 ^ n) × T (on_set t c)
   wanted_columns c h =
-      let b = holds (ltb c (2 ^ n) && on_set t c) (sym (wanted_is c) ∙ h) in
+      let b = passes (ltb c (2 ^ n) && on_set t c) (sym (wanted_is c) ∙ h) in
       (ltb→lt c (2 ^ n) (and_l (ltb c (2 ^ n)) (on_set t c) b), and_r (ltb c (2 ^ n)) (on_set t c) b)
 
   columns_wanted : (c : ℕ) → c < 2 ^ n → T (on_set t c) → In wanted_word c
@@ -73,6 +74,12 @@ field_at : (n : ℕ) (t : List ℕ) (f : ChartRow → ℕ) (i : ℕ) → i < len
 field_at n t f i l =
     get_or-map f (chart_of n t) i (chart_row n t 0) 0 (omega (arith, length-map (serving_primes_of n t) (chart_row n t)))
     ∙ ap f (get_or-map (chart_row n t) (serving_primes_of n t) i 0 (chart_row n t 0) l)
+
+-- what the rows that the search picks tell: they are no more than the places of a list, and their cubes are a shortest list, whose counts the weight has
+pub record Picked (n : ℕ) (t : List ℕ) (rows : List ChartRow) (found : PickedRows) : Type 0 where
+  pub room : length (those (length rows) (member found.rows)) ≤ 2 ^ (widest - 1)
+  pub weighs : row_weight * length (picked_cubes found.rows rows) ≤ found.weight
+  pub chosen : Chosen n t (picked_cubes found.rows rows) (found.weight - row_weight * length (picked_cubes found.rows rows))
 
 module _ (n : ℕ) (t : List ℕ) where
   abbrev rows : List ChartRow
@@ -122,16 +129,9 @@ module _ (n : ℕ) (t : List ℕ) where
     unfolding list L
     count_is = length-map (map (cube_at n t words weights of_chart) L) (row_of n) ∙ length-map L (cube_at n t words weights of_chart)
 
-    -- the picked rows are no more than the places of a list
-    picked_most : length (those (length rows) (member found.rows)) ≤ 2 ^ (widest - 1)
-    picked_most = omega (arith, count_is, minimum_rows n t list list_minimum, code_pairs_most n width)
-
     weight_is : found.weight ≡ row_weight * length list + cover_literals n list
     unfolding list
     weight_is = sym minimum_selection.weighs ∙ list_weight n t words weights of_chart L minimum_selection.within
-
-    weight_most : row_weight * length (picked_cubes found.rows rows) ≤ found.weight
-    weight_most = omega (arith, count_is, weight_is, picked_count found.rows rows)
 
     picked_are : picked_cubes found.rows rows ≡ map (cube_at n t words weights of_chart) L
     unfolding L
@@ -139,17 +139,21 @@ module _ (n : ℕ) (t : List ℕ) where
         map_same (λ i. i < length (serving_primes_of n t)) (λ (i : ℕ). get_or (cubes_of rows) i 0) (cube_at n t words weights of_chart) (field_at n t (λ r. r.cube))
         (those (length rows) (member found.rows)) minimum_selection.within
 
-    picked_chosen : Chosen n t (picked_cubes found.rows rows) (found.weight - row_weight * length (picked_cubes found.rows rows))
+    picked : Picked n t rows found
     unfolding list L
-    picked_chosen = record {
-      below = subst⁻¹ (Cubes n) picked_are (cubes_below n t words weights of_chart L minimum_selection.within);
-      minimum = subst⁻¹ (λ (qs : List ℕ). Minimum n t (rows_of_cubes n qs)) picked_are list_minimum;
-      is_ascending =
-          subst⁻¹ (λ (qs : List ℕ). T (ascending qs)) picked_are
-          (ascending_list n t words weights of_chart L (those-ascending (length rows) (member found.rows)) minimum_selection.within);
-      counts =
-          omega (arith, weight_is, count_is, picked_count found.rows rows)
-          ∙ ap (λ (qs : List ℕ). cover_literals n (rows_of_cubes n qs)) (sym picked_are);
+    picked = record {
+      room = omega (arith, count_is, minimum_rows n t list list_minimum, code_pairs_most n width);
+      weighs = omega (arith, count_is, weight_is, picked_count found.rows rows);
+      chosen = record {
+        below = subst⁻¹ (Cubes n) picked_are (cubes_below n t words weights of_chart L minimum_selection.within);
+        minimum = subst⁻¹ (λ (qs : List ℕ). Minimum n t (rows_of_cubes n qs)) picked_are list_minimum;
+        is_ascending =
+            subst⁻¹ (λ (qs : List ℕ). T (ascending qs)) picked_are
+            (ascending_list n t words weights of_chart L (those-ascending (length rows) (member found.rows)) minimum_selection.within);
+        counts =
+            omega (arith, weight_is, count_is, picked_count found.rows rows)
+            ∙ ap (λ (qs : List ℕ). cover_literals n (rows_of_cubes n qs)) (sym picked_are);
+      };
     }
 
 -- ---- as code has it: of rows that are the chart, and of columns that are the wanted codes
@@ -158,17 +162,6 @@ module _ (n : ℕ) (t : List ℕ) where
 pub chart_covers : (n : ℕ) (t : List ℕ) (rows : List ChartRow) (u : ℕ) → rows ≡ chart_of n t → u ≡ wanted_word n t → Coverable (words_of rows) u
 chart_covers n t rows u chart u-is = rw (chart, u-is) (each_column n t)
 
-module _ (n : ℕ) (t : List ℕ) (width : n ≤ widest) (rows : List ChartRow) (chart : rows ≡ chart_of n t) (u : ℕ) (u-is : u ≡ wanted_word n t)
-    (found : PickedRows) (light : Lightest rows u found) where
-  on_chart : Lightest (chart_of n t) (wanted_word n t) found
-  on_chart = subst₂ (λ (r : List ChartRow) (x : ℕ). Lightest r x found) chart u-is light
-
-  -- the picked rows are no more than the places of a list
-  pub room : length (those (length rows) (member found.rows)) ≤ 2 ^ (widest - 1)
-  room = rw chart (picked_most n t width found on_chart)
-
-  pub weighs : row_weight * length (picked_cubes found.rows rows) ≤ found.weight
-  weighs = rw chart (weight_most n t width found on_chart)
-
-  pub chosen : Chosen n t (picked_cubes found.rows rows) (found.weight - row_weight * length (picked_cubes found.rows rows))
-  chosen = rw chart (picked_chosen n t width found on_chart)
+pub picked_rows : (n : ℕ) (t : List ℕ) → n ≤ widest → (rows : List ChartRow) → rows ≡ chart_of n t → (u : ℕ) → u ≡ wanted_word n t → (found : PickedRows)
+    → Lightest rows u found → Picked n t rows found
+picked_rows n t width rows chart u u-is found light = rw chart (picked n t width found (subst₂ (λ (r : List ChartRow) (x : ℕ). Lightest r x found) chart u-is light))

@@ -5,14 +5,13 @@ use Prim.Native.Nat.{ℕ, suc, ◌-◌, ◌^◌, ◌≤◌}
 use native.Mathlib.Omega.{arith}
 use lib.Dec.{T}
 use lib.ListN.{length, length-map}
-use Rattle.std.specs.Prelude.{Ok, Err}
+use Rattle.std.specs.Prelude.{Ok}
 use Rattle.cube.specs.Words.{row_of, number_of, value_of, care_of}
-use Rattle.cube.specs.Calls.{refusal_number, answered, written}
-use Rattle.cube.specs.declared.Refusal.{Refusal}
-use Rattle.cube.proofs.Calls.{refusal_from, gives_answered, refuses_answered, listed_refused}
+use Rattle.cube.specs.Calls.{answered, written}
+use Rattle.cube.proofs.Calls.{gives_answered}
 use Rattle.cube.proofs.Minimum.{minimum_rows}
 use Rattle.cube.proofs.Rows.{number_of_row}
-use Rattle.plan.specs.Plan.{plan_refuses, totals_of, ascending, Plans}
+use Rattle.plan.specs.Plan.{plan_refuses, ascending, Plans}
 use Rattle.plan.specs.Steps.{rows_of_cubes, Cubes, Chosen}
 
 -- the cubes of some rows are the numbers of these rows
@@ -27,16 +26,6 @@ cubes_most n t qs bits chosen = omega (arith, length-map qs (row_of n), minimum_
 module _ (n : ℕ) (t values cares : List ℕ) where
   abbrev refusal : ℕ
   refusal = plan_refuses n t (length values) (length cares)
-
-  pub plan_refused : (e : Refusal) → refusal_number e ≡ refusal → Plans n t values cares values cares (Err e)
-  plan_refused e h = record {
-    list = [];
-    minimum = λ z. absurd (omega (arith, refusal_from e));
-    is_ascending = λ z. absurd (omega (arith, refusal_from e));
-    answer = refuses_answered e (totals_of n []) h;
-    values_are = (listed_refused {list = []} e h).places;
-    cares_are = (listed_refused {list = []} e h).places;
-  }
 
   pub plan_done : (qs : List ℕ) (bits : ℕ) → Chosen n t qs bits → 0 ≡ refusal → (values' cares' : List ℕ)
       → values' ≡ written 0 (map (value_of n) qs) values → cares' ≡ written 0 (map (care_of n) qs) cares

@@ -3,10 +3,10 @@ use Rattle.std.proofs.Common.{◌≡◌, ℕ, zero, suc, refl, ⊎_elim, ◌<◌
 use Rattle.std.proofs.Math.ListN.{length-map}
 use Rattle.std.proofs.Math.Nat.{eq-or-lt_of_le, le_of_suc-le-suc}
 use borrow.Table.Elements.{map_app}
+use Rattle.std.proofs.lemmas.Bool.{false_from_ne_true}
 use Rattle.numbers.specs.Below.{those}
 use Rattle.numbers.specs.Ascending.{passed}
 use Rattle.numbers.proofs.Below.{count_found}
-use Rattle.numbers.proofs.Flags.{not_set}
 use Rattle.numbers.proofs.Loops.{Turn, Ended}
 
 those_next : (f : ℕ → Bool) (m : ℕ) → those (suc m) f ≡ those m f ++ cond (f m) (m ∷ []) []
@@ -38,4 +38,4 @@ module _ (g : ℕ → ℕ) {n : ℕ} {f : ℕ → Bool} {ys : List ℕ} {x : ℕ
 
 -- at the end of the loop all that pass were items
 pub picked_all : (g : ℕ → ℕ) {n : ℕ} {f : ℕ → Bool} {ys xs : List ℕ} → Ended n f ys → xs ≡ map g (those (passed ys) f) → xs ≡ map g (those n f)
-picked_all g {n} {f} {ys} t e = e ∙ ap (map g) (sym (those_skip f (passed ys) n t.within (λ j l m. not_set (f j) (λ h. omega (arith, t.all j m h)))))
+picked_all g {n} {f} {ys} t e = e ∙ ap (map g) (sym (those_skip f (passed ys) n t.within (λ j l m. false_from_ne_true (f j) (λ h. omega (arith, t.all j m h)))))

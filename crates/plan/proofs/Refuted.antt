@@ -20,7 +20,7 @@ use Rattle.plan.specs.Theorems.{Held}
 use Rattle.plan.specs.declared.Totals.{Totals}
 use Rattle.plan.proofs.Answers.{not_refused, accepted_refused, refused_by}
 use Rattle.plan.proofs.Refusals.{Plannable, plannable}
-use Rattle.plan.proofs.Theorems.{arrays_hold}
+use Rattle.plan.proofs.Theorems.{held, arrays_hold}
 
 -- the rows and bits of a case
 abbrev counts_of : Case → Totals
@@ -102,12 +102,12 @@ pub four_with_32_places : (values cares values' cares' : List ℕ) → length va
 unfolding some bad_cell
 four_with_32_places values cares values' cares' v w p =
     let enough : plan_refuses 6 (replicate 64 0) 32 32 ≡ 0 = refl in
-    accepted_refused 6 (replicate 64 0) values cares values' cares' ShortOutput p (ap₂ (λ (i j : ℕ). plan_refuses 6 (replicate 64 0) i j) v w ∙ enough)
+    accepted_refused p (ap₂ (λ (i j : ℕ). plan_refuses 6 (replicate 64 0) i j) v w ∙ enough)
 
 -- any counts with 31 places in an array, at width 6 whatever the table and the other array
 module _ (t values cares values' cares' : List ℕ) (rows bits : ℕ) (p : Plans 6 t values cares values' cares' (with_totals rows bits)) where
   enough : Plannable 6 t (length values) (length cares)
-  enough = plannable 6 t (length values) (length cares) (not_refused 6 t values cares values' cares' (record { rows = rows; bits = bits }) p)
+  enough = plannable 6 t (length values) (length cares) (not_refused p)
 
   pub counts_with_31_values : length values ≡ 31 → ⊥
   counts_with_31_values v = omega (arith, enough.enough_values)
@@ -117,7 +117,7 @@ module _ (t values cares values' cares' : List ℕ) (rows bits : ℕ) (p : Plans
 
 -- more rows than pairs of codes, at width 6 whatever the table and the arrays
 pub thirty_three_rows : (t values cares values' cares' : List ℕ) (bits : ℕ) → Plans 6 t values cares values' cares' (with_totals 33 bits) → ⊥
-thirty_three_rows t values cares values' cares' bits p = omega (arith, ((arrays_hold 6 t values cares values' cares').counted (record { rows = 33; bits = bits }) p).few)
+thirty_three_rows t values cares values' cares' bits p = omega (arith, (held p).few)
 
 -- ---- wrong arrays
 
@@ -137,8 +137,7 @@ descending values cares values' cares' r e p =
 -- the place past the one row of b changed
 pub place_past_count : Plans 1 (table_of case_b) (7 ∷ 7 ∷ []) (7 ∷ 7 ∷ []) (0 ∷ 0 ∷ []) (0 ∷ 7 ∷ []) (with_totals 1 0) → ⊥
 place_past_count p =
-    let h = (arrays_hold 1 (table_of case_b) (7 ∷ 7 ∷ []) (7 ∷ 7 ∷ []) (0 ∷ 0 ∷ []) (0 ∷ 7 ∷ [])).counted (record { rows = 1; bits = 0 }) p in
-    let z : ◌≡◌ {A = ℕ} 0 7 = ap (λ (l : List ℕ). get_or l 0 0) h.values_behind in
+    let z : ◌≡◌ {A = ℕ} 0 7 = ap (λ (l : List ℕ). get_or l 0 0) (held p).values_behind in
     omega arith
 
 -- ---- wrong refusals
@@ -150,14 +149,12 @@ written_on_refusal r p = let z : ◌≡◌ {A = ℕ} 0 7 = ap (λ (l : List ℕ)
 -- 4 for arrays of any length, so of 31 places too, where every cell is 3
 pub four_before_three : (values cares values' cares' : List ℕ) → Plans 6 (replicate 64 3) values cares values' cares' (Err ShortOutput) → ⊥
 unfolding some bad_cell
-four_before_three values cares values' cares' p =
-    let z : ◌≡◌ {A = ℕ} 3 4 = refused_by 6 (replicate 64 3) values cares values' cares' ShortOutput p in omega arith
+four_before_three values cares values' cares' p = let z : ◌≡◌ {A = ℕ} 3 4 = refused_by p in omega arith
 
 -- 3 for a cell of a table that has 63 cells at width 6
 pub three_before_two : (values cares values' cares' : List ℕ) → Plans 6 (replicate 63 3) values cares values' cares' (Err Cell) → ⊥
-three_before_two values cares values' cares' p =
-    let z : ◌≡◌ {A = ℕ} 2 3 = refused_by 6 (replicate 63 3) values cares values' cares' Cell p in omega arith
+three_before_two values cares values' cares' p = let z : ◌≡◌ {A = ℕ} 2 3 = refused_by p in omega arith
 
 -- 2 for a table of one cell at width 7
 pub two_before_one : (values cares values' cares' : List ℕ) → Plans 7 (1 ∷ []) values cares values' cares' (Err TableLength) → ⊥
-two_before_one values cares values' cares' p = let z : ◌≡◌ {A = ℕ} 1 2 = refused_by 7 (1 ∷ []) values cares values' cares' TableLength p in omega arith
+two_before_one values cares values' cares' p = let z : ◌≡◌ {A = ℕ} 1 2 = refused_by p in omega arith

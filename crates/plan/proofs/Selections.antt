@@ -10,9 +10,10 @@ use native.Mathlib.Nat.{not-suc-le-zero, le_of_suc-le-suc}
 use native.Mathlib.Omega.{arith}
 use lib.Dec.{T, ltb, leb, lt→ltb, le→leb, leb→le}
 use lib.ListN.{length, get_or}
+use Rattle.std.specs.Bool.{passes}
 use Rattle.cube.specs.Words.{on_set, off_set, Row, Cover, row_matches, formed, each_row, all_formed, cover_matches, cover_literals, implements, cube_matches, cube_literals, row_of, number_of, implicant, prime, serves, serving_prime, serving_primes_of, column}
 use Rattle.cube.specs.Minimum as lists
-use Rattle.numbers.proofs.Bools.{and_l, and_r, and_i, or_e, or_l, or_r, is_true, holds}
+use Rattle.numbers.proofs.Bools.{and_l, and_r, and_i, or_e, or_l, or_r, is_true}
 use Rattle.numbers.proofs.Below.{those_at, those_ascend, those_place}
 use Rattle.cube.proofs.Digits.{contained_matches, contained_literals}
 use Rattle.cube.proofs.Implicants.{implicant_at, prime-implicant, PrimeAbove, prime_above}
@@ -64,7 +65,7 @@ module _ (n : ℕ) (t words weights : List ℕ) (chart : ChartOf n t words weigh
   covers_matches : (i c : ℕ) → ChartRow i → CoversColumn words i c → T (cube_matches n (cube_at i) c)
   covers_matches i c l h =
       and_r (on_set t c) (cube_matches n (cube_at i) c)
-      (and_r (ltb c (2 ^ n)) (column n t (cube_at i) c) (holds (ltb c (2 ^ n) && column n t (cube_at i) c) (sym (covers_is i c l) ∙ h)))
+      (and_r (ltb c (2 ^ n)) (column n t (cube_at i) c) (passes (ltb c (2 ^ n) && column n t (cube_at i) c) (sym (covers_is i c l) ∙ h)))
 
   -- ---- the list of a selection
 
@@ -149,7 +150,7 @@ module _ (n : ℕ) (t words weights : List ℕ) (chart : ChartOf n t words weigh
     one_more = go (serves n t (above r s).cube) refl
       where
         go : (b : Bool) → serves n t (above r s).cube ≡ b → Selected (r ∷ rs)
-        go true e = with_prime (holds (serves n t (above r s).cube) e)
+        go true e = with_prime (passes (serves n t (above r s).cube) e)
         go false e = without_prime (λ x. subst T e x)
 
   selected : (rs : Cover) → T (each_row (sound n t) rs) → Selected rs

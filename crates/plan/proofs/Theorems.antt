@@ -5,7 +5,7 @@ use mathlib.Core.List.{List, [], ◌∷◌, ◌++◌, map}
 use Prim.Native.Nat.{ℕ, ◌-◌, ◌^◌, ◌≤◌}
 use native.Mathlib.Omega.{arith}
 use lib.Dec.{T}
-use lib.ListN.{length, length-map, drop}
+use lib.ListN.{length, length-map, take, drop}
 use Rattle.std.specs.Prelude.{Result, Ok, Err}
 use Rattle.numbers.proofs.Fronts.{front_long, front_is, front_behind}
 use Rattle.cube.specs.Words.{Row, Cover, rows_of, first_rows, cover_literals, number_of}
@@ -27,48 +27,48 @@ unfolding rows_of
 rows_back [] = refl
 rows_back (r ∷ rs) = ap (λ (l : Cover). r ∷ l) (rows_back rs)
 
-module _ (n : ℕ) (t values cares values' cares' : List ℕ) where
-  module _ (totals : Totals) (p : Plans n t values cares values' cares' (Ok totals)) where
-    accepts : plan_refuses n t (length values) (length cares) ≡ 0
-    accepts = not_refused n t values cares values' cares' totals p
-
+module _ {n : ℕ} {t values cares values' cares' : List ℕ} where
+  module _ {totals : Totals} (p : Plans n t values cares values' cares' (Ok totals)) where
     -- an array has a number for each row
     counts : (f : Row → ℕ) → totals.rows ≡ length (map f p.list)
-    counts f = rows_is n t values cares values' cares' totals p ∙ sym (length-map p.list f)
+    counts f = rows_is p ∙ sym (length-map p.list f)
 
     values_are : values' ≡ values_of p.list ++ drop (length (values_of p.list)) values
-    values_are = p.values_are ∙ ap (λ (k : ℕ). written k (values_of p.list) values) accepts
+    values_are = p.values_are ∙ ap (λ (k : ℕ). written k (values_of p.list) values) (not_refused p)
 
     cares_are : cares' ≡ cares_of p.list ++ drop (length (cares_of p.list)) cares
-    cares_are = p.cares_are ∙ ap (λ (k : ℕ). written k (cares_of p.list) cares) accepts
+    cares_are = p.cares_are ∙ ap (λ (k : ℕ). written k (cares_of p.list) cares) (not_refused p)
 
     -- the first places hold the list that the promise names
-    pub list_is : first_rows totals.rows values' cares' ≡ p.list
-    list_is =
-        ap₂ rows_of (front_is (values_of p.list) values (counts (λ r. r.value)) values_are)
-        (front_is (cares_of p.list) cares (counts (λ r. r.care)) cares_are)
-        ∙ rows_back p.list
+    pub values_stand : take totals.rows values' ≡ values_of p.list
+    values_stand = front_is (values_of p.list) values (counts (λ r. r.value)) values_are
 
-    held : Held n t values cares values' cares' totals
+    pub cares_stand : take totals.rows cares' ≡ cares_of p.list
+    cares_stand = front_is (cares_of p.list) cares (counts (λ r. r.care)) cares_are
+
+    list_is : first_rows totals.rows values' cares' ≡ p.list
+    list_is = ap₂ rows_of values_stand cares_stand ∙ rows_back p.list
+
+    pub held : Held n t values cares values' cares' totals
     held = record {
       enough_values = front_long (values_of p.list) values (counts (λ r. r.value)) values_are;
       enough_cares = front_long (cares_of p.list) cares (counts (λ r. r.care)) cares_are;
-      minimum = subst⁻¹ (Minimum n t) list_is (p.minimum accepts);
-      is_ascending = subst⁻¹ (λ (l : Cover). T (ascending (map (number_of n) l))) list_is (p.is_ascending accepts);
-      row_count = ap length list_is ∙ sym (rows_is n t values cares values' cares' totals p);
-      bit_count = ap (cover_literals n) list_is ∙ sym (bits_is n t values cares values' cares' totals p);
+      minimum = subst⁻¹ (Minimum n t) list_is (p.minimum (not_refused p));
+      is_ascending = subst⁻¹ (λ (l : Cover). T (ascending (map (number_of n) l))) list_is (p.is_ascending (not_refused p));
+      row_count = ap length list_is ∙ sym (rows_is p);
+      bit_count = ap (cover_literals n) list_is ∙ sym (bits_is p);
       values_behind = front_behind (values_of p.list) values (counts (λ r. r.value)) values_are;
       cares_behind = front_behind (cares_of p.list) cares (counts (λ r. r.care)) cares_are;
-      few = subst⁻¹ (λ (k : ℕ). k ≤ 2 ^ (n - 1)) (rows_is n t values cares values' cares' totals p) (minimum_rows n t p.list (p.minimum accepts));
+      few = subst⁻¹ (λ (k : ℕ). k ≤ 2 ^ (n - 1)) (rows_is p) (minimum_rows n t p.list (p.minimum (not_refused p)));
     }
 
-  pub arrays_hold : ArraysHold n t values cares values' cares'
-  arrays_hold = record { counted = held; accepted = delivered }
-    where
-      delivered : (r : Result Totals Refusal) → plan_refuses n t (length values) (length cares) ≡ 0 → Plans n t values cares values' cares' r
-          → Delivered n t values cares values' cares' r
-      delivered (Ok totals) e p = record { totals = totals; answer = refl; held = held totals p }
-      delivered (Err d) e p = absurd (accepted_refused n t values cares values' cares' d p e)
+pub arrays_hold : (n : ℕ) (t values cares values' cares' : List ℕ) → ArraysHold n t values cares values' cares'
+arrays_hold n t values cares values' cares' = record { counted = λ totals p. held p; accepted = delivered }
+  where
+    delivered : (r : Result Totals Refusal) → plan_refuses n t (length values) (length cares) ≡ 0 → Plans n t values cares values' cares' r
+        → Delivered n t values cares values' cares' r
+    delivered (Ok totals) e p = record { totals = totals; answer = refl; held = held p }
+    delivered (Err d) e p = absurd (accepted_refused p e)
 
 -- ---- the table that fills all places
 
@@ -76,7 +76,7 @@ pub all_filled : (n : ℕ) (values cares values' cares' : List ℕ) → AllFille
 all_filled n values cares values' cares' = record {
   accepted = λ w v c. sym (refuses_none n (odd_ones n) (length values) (length cares) (cells_left n (odd_ones n) w (filled n).cells ∙ first_passes (bad_cell (odd_ones n)) 3 [] (filled n).good) v c);
   filled = λ totals p.
-      let h = held n (odd_ones n) values cares values' cares' totals p in
-      let width = (plannable n (odd_ones n) (length values) (length cares) (accepts n (odd_ones n) values cares values' cares' totals p)).table.from in
+      let h = held p in
+      let width = (plannable n (odd_ones n) (length values) (length cares) (not_refused p)).table.from in
       omega (arith, h.few, h.row_count, (filled n).rows width (first_rows totals.rows values' cares') h.minimum.formed h.minimum.right);
 }

@@ -4,8 +4,8 @@ use mathlib.Core.Logic.{inl, inr, ⊎_elim}
 use Prim.Native.Nat.{ℕ, ◌+◌, ◌-◌, ◌*◌, ◌^◌, ◌<◌, ◌≤◌}
 use native.Mathlib.Nat.{eq-or-lt_of_le, mul-le-mul_left}
 use native.Mathlib.Omega.{arith}
+use Rattle.std.proofs.lemmas.Bool.{cases_lt}
 use Rattle.cube.specs.Minimum.{NoBetter}
-use Rattle.numbers.proofs.Bools.{lt_or_le}
 use Rattle.plan.specs.Steps.{row_weight}
 
 -- few rows test few bits
@@ -22,4 +22,4 @@ pub weight_orders : (n rows bits rival bits' : ℕ) → n * 2 ^ (n - 1) < row_we
     → NoBetter rival bits' rows bits
 weight_orders n rows bits rival bits' s h l b =
     ⊎_elim (λ x. absurd (omega (arith, few_bits n rival bits' s (omega arith) b))) (λ x. ⊎_elim (λ e. inr (e, omega arith)) inl (eq-or-lt_of_le x))
-    (lt_or_le rival rows)
+    (cases_lt rival rows)

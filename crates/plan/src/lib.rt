@@ -20,7 +20,7 @@ use chart_arrays::ChartRow;
 use cube::Refusal;
 use incumbent::Cover;
 use matrix::{Matrix, columns, rows};
-use spelling::{MOST_CODE_PAIRS, MOST_CUBES};
+use spelling::{Cube, MOST_CODE_PAIRS, MOST_CUBES};
 use tables::Table;
 
 // What a row weighs, not counting its tested bits.
@@ -52,7 +52,10 @@ fn lightest(rows: &[ChartRow], columns: columns::Set) -> Cover
         words.push(row.word);
         weights.push(ROW_WEIGHT + u32::from(row.literals));
     }
-    let matrix = Matrix::new(words.as_slice(), weights.as_slice());
+    let matrix = Matrix {
+        words: words.as_slice(),
+        weights: weights.as_slice(),
+    };
     search::minimum_cover(matrix, columns).cover.unwrap()
 }
 
@@ -81,15 +84,16 @@ fn shortest(table: Table) -> CubeList
     CubeList { cubes, bits }
 }
 
-// Writes the values and the cares of some cubes, from the first place on.
+// Writes the values and the cares of some cubes, from the first place on. A place is an index: it is one in two arrays, as C lends them.
 #[tactic(auto, using(crate::proofs::Written::map_written))]
-fn write_rows(n: usize, cubes: &[u16], values: &mut [u8], cares: &mut [u8])
-    requires { Spellable n cubes.now values.old cares.old }
-    ensures values_are { values.new ≡ written 0 (map (value_of n) cubes.now) values.old }
-    ensures cares_are { cares.new ≡ written 0 (map (care_of n) cubes.now) cares.old }
+fn write_rows(width: usize, cubes: &[u16], values: &mut [u8], cares: &mut [u8])
+    requires { Spellable width cubes.now values.old cares.old }
+    ensures values_are { values.new ≡ written 0 (map (value_of width) cubes.now) values.old }
+    ensures cares_are { cares.new ≡ written 0 (map (care_of width) cubes.now) cares.old }
 {
     for (i, q) in cubes.iter().enumerate() {
-        let row = spelling::row(n, *q as usize);
+        let number = usize::from(*q);
+        let row = Cube { width, number }.row();
         values[i] = row.value;
         cares[i] = row.care;
     }
@@ -114,7 +118,8 @@ pub fn accept<'a>(
     Ok(accepted)
 }
 
-// Writes a shortest list for a table into the first places of both arrays, ascending by cube number, and answers its totals.
+// Writes a shortest list for a table into the first places of both arrays, ascending by cube number, and answers its totals. A list is lent as two arrays
+// here and by the other calls that write one, as C has it.
 pub fn plan(n: usize, table: &[u8], values: &mut [u8], cares: &mut [u8]) -> Result<Totals, Refusal>
     ensures { Plans n table.now values.old cares.old values.new cares.new result }
 {

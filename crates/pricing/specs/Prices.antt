@@ -1,14 +1,10 @@
--- Prices for columns: how they are counted, and what a set of columns is worth. Definitions only. Assumes nothing.
+-- Prices for columns: how high they are, and what a set of columns is worth. Definitions only. Assumes nothing.
 use Rattle.std.specs.Prelude.{◌≡◌, ℕ, ◌*◌, ◌≤◌, Bool, List, slice_index}
 use Rattle.covering.specs.Sum.{if_set, sum}
 use Rattle.matrix.specs.Sets.{column_limit}
 use Rattle.matrix.specs.Matrix.{weight_limit}
 
 -- ---- sizes
-
--- prices are counted in parts of a unit of weight
-abbrev pub scale : ℕ
-scale = 4096
 
 -- a column's price is below `weight_limit` as weights are, and so no set of columns is worth more than this
 abbrev pub worth_limit : ℕ

@@ -7,8 +7,8 @@ ghost use Rattle.matrix.specs.Matrix.{row_count, weight_of, weight_limit};
 ghost use Rattle.pricing.specs.Prices.{level_count};
 
 use crate::Prices;
-use matrix::transposed::ByColumn;
-use matrix::{Subproblem, columns, rows};
+use matrix::transposed::Indexed;
+use matrix::{columns, rows};
 
 // A slack for each row.
 type Slacks = [u32; rows::LIMIT];
@@ -16,39 +16,32 @@ type Slacks = [u32; rows::LIMIT];
 // The levels of columns, which are raised one after the other.
 const LEVELS: usize = 16;
 
-// A covering problem whose columns get prices: its rows by column, how many parts a unit of weight has, and the fee of a row in such parts.
+// A covering problem whose columns get prices, with its rows by column: how many parts a unit of weight has, and the fee of a row in such parts.
 #[derive(Clone, Copy)]
 pub struct Problem<'a> {
-    pub covering: Subproblem<'a>,
-    pub by_column: &'a ByColumn,
+    pub indexed: Indexed<'a>,
     pub scale: u32,
     pub fee: u64,
 }
 
 impl<'a> Problem<'a> {
-    // The undecided columns of the row i.
-    fn columns_of(&self, i: usize) -> columns::Set
-        requires { i < row_count self.now.covering.matrix.words.now }
-    {
-        self.covering.matrix.columns_of(i) & self.covering.undecided
-    }
-
     // What the row i has for its columns: its weight less the fee, in parts, modulo 2 ^ 32.
     fn capacity(&self, i: usize) -> u32
-        requires { i < row_count self.now.covering.matrix.words.now }
-        ensures { result ≡ (self.now.scale * weight_of self.now.covering.matrix.weights.now i - self.now.fee) % weight_limit }
+        requires { i < row_count self.now.indexed.problem.matrix.words.now }
+        ensures { result ≡ (self.now.scale * weight_of self.now.indexed.problem.matrix.weights.now i - self.now.fee) % weight_limit }
     {
-        let all = u64::from(self.scale) * self.covering.matrix.weight(i);
+        let all = u64::from(self.scale) * self.indexed.problem.matrix.weight(i);
         (all.saturating_sub(self.fee) % (1 << 32)) as u32
     }
 
     // The undecided columns by the number of their rows: a level for each number, and the last for all higher ones.
     fn levels(&self) -> [columns::Set; LEVELS] {
         let mut levels = [columns::NONE; LEVELS];
-        let end = self.covering.matrix.rows();
-        for c in self.covering.undecided {
-            let level = level_of(self.by_column.at(c).len(end));
-            levels[level] = levels[level] | columns::Set::only(c);
+        let problem = &self.indexed.problem;
+        let end = problem.matrix.rows();
+        for c in problem.undecided {
+            let level = level_of(self.indexed.rows_at(c).len(end));
+            levels[level] |= columns::Set::only(c);
         }
         levels
     }
@@ -57,18 +50,19 @@ impl<'a> Problem<'a> {
     fn near(&self, c: usize) -> columns::Set
         requires { c < column_limit }
     {
+        let problem = &self.indexed.problem;
         let mut near = columns::NONE;
-        for i in self.by_column.at(c).iter(self.covering.matrix.rows()) {
-            near = near | self.covering.matrix.columns_of(i);
+        for i in self.indexed.rows_of(c) {
+            near |= problem.columns_of(i);
         }
-        near & self.covering.undecided
+        near
     }
 
     // Each undecided column at the least fair share of its rows.
     fn shares(&self) -> Prices {
         let mut prices = [u32::MAX; columns::LIMIT];
-        for i in self.covering.live.iter(self.covering.matrix.rows()) {
-            let set = self.columns_of(i);
+        for i in self.indexed.problem.rows() {
+            let set = self.indexed.problem.columns_of(i);
             let share = self.capacity(i) / (set.len() as u32).max(1);
             cap(&mut prices, set, share);
         }
@@ -102,8 +96,9 @@ impl<'a> Ascent<'a> {
     // Sets the slack of each live row: what it has left once it pays the prices of its undecided columns.
     fn set_slacks(&mut self) {
         let problem = self.problem;
-        for i in problem.covering.live.iter(problem.covering.matrix.rows()) {
-            let paid = crate::worth(&self.prices, problem.columns_of(i));
+        let covering = &problem.indexed.problem;
+        for i in covering.rows() {
+            let paid = crate::worth(&self.prices, covering.columns_of(i));
             self.slacks[i] = u64::from(problem.capacity(i)).saturating_sub(paid) as u32;
         }
     }
@@ -112,9 +107,9 @@ impl<'a> Ascent<'a> {
     fn least_slack(&self, c: usize) -> u32
         requires { c < column_limit }
     {
-        let end = self.problem.covering.matrix.rows();
+        let indexed = &self.problem.indexed;
         let mut least = u32::MAX;
-        for i in self.problem.by_column.at(c).iter(end) {
+        for i in indexed.rows_of(c) {
             least = least.min(self.slacks[i]);
             if least == 0 {
                 return 0;
@@ -132,8 +127,8 @@ impl<'a> Ascent<'a> {
             return;
         }
         self.prices[c] = price;
-        let end = self.problem.covering.matrix.rows();
-        for i in self.problem.by_column.at(c).iter(end) {
+        let indexed = &self.problem.indexed;
+        for i in indexed.rows_of(c) {
             self.slacks[i] = self.slacks[i].wrapping_add(amount);
         }
     }
@@ -180,7 +175,7 @@ impl<'a> Ascent<'a> {
         self.set_price(c, 0);
         self.raise_all(near - columns::Set::only(c));
         self.raise(c);
-        let changed = crate::worth(&self.prices, self.problem.covering.undecided);
+        let changed = crate::worth(&self.prices, self.problem.indexed.problem.undecided);
         if worth <= changed {
             return changed;
         }
@@ -190,7 +185,7 @@ impl<'a> Ascent<'a> {
 
     // Retries each undecided column.
     fn improve(&mut self) {
-        let undecided = self.problem.covering.undecided;
+        let undecided = self.problem.indexed.problem.undecided;
         let mut worth = crate::worth(&self.prices, undecided);
         for c in undecided {
             worth = self.retry(worth, c);

@@ -1,11 +1,11 @@
 // Prices for the columns of a covering problem and a fee for each row, by heuristics: dual ascent (`dual`) and a linear program (`simplex`). Nothing is promised
 // of the prices that they find but that finding them ends: whoever uses prices adds up what they show. What a set of columns is worth is told exactly.
+// No call reads `Recalled::shares` and `Priced::optimal` of the linear program: they are for whoever branches by it.
 //
 // Three columns and three rows of weight 2, each with two of the columns: from a fair share each column gets the price 1, or `SCALE` where prices are
 // counted in such parts.
 #![tactic(auto)]
 
-ghost use Rattle.std.specs.Prelude.{◌≡◌};
 ghost use Rattle.matrix.specs.Sets.{has};
 ghost use Rattle.pricing.specs.Prices.{Valued};
 

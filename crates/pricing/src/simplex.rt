@@ -47,6 +47,7 @@ struct Variable {
 }
 
 // What outlives a linear program: a share for each row of the matrix, the columns whose prices were in the last basis, and whether the price of a row was.
+// The prices of columns are the bits of a set, and that of a row, which is no column's, has a bit of its own.
 #[derive(Drop)]
 pub struct Recalled {
     pub shares: [f32; rows::LIMIT],
@@ -54,7 +55,8 @@ pub struct Recalled {
     pub fee: bool,
 }
 
-// What a linear program gives: prices for the columns, the price of a row, and whether it was solved to the end. The prices stand either way.
+// What a linear program gives: prices for the columns, the price of a row, and whether it was solved to the end. That does not say whether there are prices:
+// they stand either way, and it says only how good they are.
 #[derive(Drop)]
 pub struct Priced {
     pub prices: Prices,
@@ -74,23 +76,29 @@ const LEAST_PIVOT: f32 = 0.01;
 // By how much a right side may fall below zero.
 const TOLERANCE: f32 = 0.0015;
 
-// The parts of a unit of weight in which prices are counted: `crate::SCALE` as a float.
-const PARTS: f32 = 4096.0;
+// The parts of a unit of weight in which prices are counted.
+const PARTS: f32 = crate::SCALE as f32;
 
 // The rows' weights are lowered by small multiples of this number, so that they differ.
 const SPREAD: f32 = 0.000244140625;
 
+// The price of a row: `ArrayVec` needs some variable for the room that it does not use.
 impl Default for Variable {
-    // The price of a row.
     fn default() -> Variable {
+        Variable::fee()
+    }
+}
+
+// A function for each kind, and not one of the meaning, which would ask for the facts of both ghost fields.
+impl Variable {
+    // The price of a row.
+    fn fee() -> Variable {
         Variable {
             meaning: Meaning::Fee,
             factor: 1.0,
         }
     }
-}
 
-impl Variable {
     // The price of the column c.
     fn price(c: usize) -> Variable
         requires { c < column_limit }
@@ -133,29 +141,33 @@ impl Recalled {
     // Notes a variable that is basic, if it is a price.
     fn note(&mut self, variable: Variable) {
         match variable.meaning {
-            Meaning::Price(c) => self.basic = self.basic | columns::Set::only(c),
+            Meaning::Price(c) => self.basic |= columns::Set::only(c),
             Meaning::Fee => self.fee = true,
             Meaning::Slack(_) => {}
         }
     }
 }
 
+// The variables at the places.
+type Places = ArrayVec<Variable, PLACES>;
+
 // The tableau in use: its cells, the basic variable of each row, and the variable at each place.
 #[derive(Drop)]
 struct Tableau<'a> {
     cells: &'a mut Cells,
     rows: ArrayVec<Variable, ROWS>,
-    places: ArrayVec<Variable, PLACES>,
+    places: Places,
 }
 
-// The undecided columns' prices, and then the price of a row if rows are needed.
-fn places_of(undecided: columns::Set, need: u64) -> ArrayVec<Variable, PLACES> {
+// The undecided columns' prices, and then the price of a row if rows are needed. They are pushed one by one, here and in `load_rows`: `extend` answers a `Result`,
+// which would have to be ruled out.
+fn places_of(undecided: columns::Set, need: u64) -> Places {
     let mut places = ArrayVec::new();
     for c in undecided {
         places.push(Variable::price(c));
     }
     if need != 0 {
-        places.push(Variable::default());
+        places.push(Variable::fee());
     }
     places
 }
@@ -165,7 +177,7 @@ fn right_side(matrix: Matrix, i: usize) -> f32
     requires { i < row_count matrix.words.now }
 {
     let part = (i * 7 % 16) as u16;
-    nearest_u32_to_f32(matrix.weight(i) as u32) - f32::from(part) * SPREAD
+    nearest_u32_to_f32(matrix.weights[i]) - f32::from(part) * SPREAD
 }
 
 // The place of the price of the undecided column c: behind those of the undecided columns below it.
@@ -178,27 +190,25 @@ fn place_of(undecided: columns::Set, c: usize) -> usize
 
 // Loads a row of the tableau for the row i of the matrix: an entry of 1 for each of its undecided columns, and the right side behind the last place. The price
 // of a row has the entry 1 too, behind the columns' prices; where it has no place, the right side stands there.
-fn load_row(line: &mut Line, problem: &Subproblem, places: usize, i: usize)
-    requires { (i < row_count problem.now.matrix.words.now) × (places ≤ most_places) }
+fn load_row(line: &mut Line, problem: &Subproblem, places: &Places, i: usize)
+    requires { i < row_count problem.now.matrix.words.now }
 {
     *line = [0.0; PLACES + 1];
-    for c in problem.matrix.columns_of(i) & problem.undecided {
+    for c in problem.columns_of(i) {
         line[place_of(problem.undecided, c)] = 1.0;
     }
     line[problem.undecided.len()] = 1.0;
-    line[places] = right_side(problem.matrix, i);
+    line[places.len()] = right_side(problem.matrix, i);
 }
 
 // Loads the live rows, each with its slack as its basic variable, unless there is none or there are too many.
 fn load_rows(
     problem: &Subproblem,
-    places: usize,
+    places: &Places,
     cells: &mut Cells,
-) -> Option<ArrayVec<Variable, ROWS>>
-    requires { places ≤ most_places }
-{
+) -> Option<ArrayVec<Variable, ROWS>> {
     let mut rows = ArrayVec::new();
-    for i in problem.live.iter(problem.matrix.rows()) {
+    for i in problem.rows() {
         if rows.is_full() {
             return None;
         }
@@ -209,18 +219,11 @@ fn load_rows(
 }
 
 // How many rows have an entry at the place j.
-// A `for`: `filter` with `count`, and `sum`, are slower.
 fn entries(lines: &[Line], j: usize) -> u16
     requires { (length lines.now ≤ most_rows) × (j < most_places) }
     ensures { result ≤ most_rows }
 {
-    let mut n = 0;
-    for line in lines {
-        if line[j] != 0.0 {
-            n += 1;
-        }
-    }
-    n
+    lines.iter().filter(|line| line[j] != 0.0).count() as u16
 }
 
 // The first whole number from 4 on that is no less than 4 times the square root of n.
@@ -244,7 +247,8 @@ fn at_least_zero(side: f32) -> f32 {
     if side < 0.0 { 0.0 } else { side }
 }
 
-// The lower of a ratio and that of a row with a right side and an entry, if the entry may be a pivot.
+// The lower of a ratio and that of a row with a right side and an entry, if the entry may be a pivot. They are compared by a product, so that only a lower one
+// is divided: `min` would divide each.
 fn lower_ratio(ratio: f32, side: f32, entry: f32) -> f32 {
     if LEAST_PIVOT < entry {
         let loose = at_least_zero(side) + TOLERANCE;
@@ -260,27 +264,29 @@ fn is_pivot(ratio: f32, side: f32, entry: f32) -> bool {
     LEAST_PIVOT < entry && at_least_zero(side) <= ratio * entry
 }
 
-// Divides the row of the pivot, with 1 at the place q, by the pivot, which was the entry there.
-fn divide(line: &mut Line, q: usize, places: usize)
-    requires { (q < places) × (places ≤ most_places) }
+// Divides the row of the pivot up to its right side, with 1 at the place q, by the pivot, which was the entry there.
+fn divide(line: &mut Line, q: usize, places: &Places)
+    requires { q < array_vec_len places.now }
 {
+    let side = places.len();
     let inverse = 1.0 / line[q];
     line[q] = 1.0;
-    for cell in &mut line[..=places] {
+    for cell in &mut line[..=side] {
         *cell *= inverse;
     }
 }
 
-// Subtracts from a row the multiple of the divided row that exchanges the variable at the place q.
-fn eliminate(line: &mut Line, q: usize, places: usize, divided: &Line)
-    requires { (q < places) × (places ≤ most_places) }
+// Subtracts from a row up to its right side the multiple of the divided row that exchanges the variable at the place q.
+fn eliminate(line: &mut Line, q: usize, places: &Places, divided: &Line)
+    requires { q < array_vec_len places.now }
 {
+    let side = places.len();
     let factor = line[q];
     if factor == 0.0 {
         return;
     }
     line[q] = 0.0;
-    for (cell, other) in line[..=places].iter_mut().zip(divided) {
+    for (cell, other) in line[..=side].iter_mut().zip(divided) {
         *cell -= factor * *other;
     }
 }
@@ -296,7 +302,8 @@ fn price_of(price: f32) -> u32 {
     }
 }
 
-// A number as the nearest float, or the float of 2 ^ 32 if it is larger.
+// A need or a target as the nearest float, or as the float of 2 ^ 32 if it is larger.
+// A function of its own, since no `From` rounds or has an upper end.
 fn float_of(n: u64) -> f32 {
     nearest_u64_to_f32(n.min(1 << 32))
 }
@@ -325,23 +332,23 @@ impl<'a> Tableau<'a> {
     fn entering(&self) -> Option<usize>
         ensures { IfSome result (λ q. q < array_vec_len self.now.places) }
     {
-        let mut best = None;
-        let mut highest = 0.0;
+        let mut best: Option<(usize, f32)> = None;
         let cells = &*self.cells;
         for (q, (variable, gain)) in self.places.iter().zip(&cells[self.rows.len()]).enumerate() {
             let rated = *gain * variable.factor;
-            if LEAST_GAIN < *gain && highest < rated {
-                highest = rated;
-                best = Some(q);
+            if LEAST_GAIN < *gain && best.is_none_or(|(_, highest)| highest < rated) {
+                best = Some((q, rated));
             }
         }
-        best
+        best.map(|(q, _)| q)
     }
 
     // The least ratio of a right side, with the tolerance, to an entry at the place q.
     fn least_ratio(&self, q: usize) -> f32
         requires { q < array_vec_len self.now.places }
     {
+        // No row limits the price so far. Not infinity, which would take a right side above 10^28 for a limit too. An `Option` would take the first row for
+        // a limit in every case, and the prices are to stay what they were.
         let mut ratio = 1.0e30;
         let side = self.places.len();
         for line in &self.cells[..self.rows.len()] {
@@ -356,17 +363,15 @@ impl<'a> Tableau<'a> {
         ensures { IfSome result (λ p. p < array_vec_len self.now.rows) }
     {
         let ratio = self.least_ratio(q);
-        let mut best = None;
-        let mut widest = 0.0;
+        let mut best: Option<(usize, f32)> = None;
         let side = self.places.len();
         for (p, line) in self.cells[..self.rows.len()].iter().enumerate() {
             let entry = line[q];
-            if widest < entry && is_pivot(ratio, line[side], entry) {
-                widest = entry;
-                best = Some(p);
+            if best.is_none_or(|(_, widest)| widest < entry) && is_pivot(ratio, line[side], entry) {
+                best = Some((p, entry));
             }
         }
-        best
+        best.map(|(p, _)| p)
     }
 
     // Makes the variable at the place q basic in the row p, in exchange for that row's.
@@ -374,13 +379,12 @@ impl<'a> Tableau<'a> {
         requires { (p < array_vec_len self.old.rows) × (q < array_vec_len self.old.places) }
     {
         let rows = self.rows.len();
-        let places = self.places.len();
         let cells = &mut *self.cells;
-        divide(&mut cells[p], q, places);
+        divide(&mut cells[p], q, &self.places);
         let divided = cells[p];
         for (i, line) in cells[..=rows].iter_mut().enumerate() {
             if i != p {
-                eliminate(line, q, places, &divided);
+                eliminate(line, q, &self.places, &divided);
             }
         }
         mem::swap(&mut self.rows[p], &mut self.places[q]);
@@ -410,7 +414,7 @@ impl<'a> Tableau<'a> {
         false
     }
 
-    // The prices of the columns, which are 0 where they are not basic.
+    // The prices of the columns: 0 for those that are not basic, as every variable is that is not.
     fn prices(&self) -> Prices {
         let mut prices = [0; columns::LIMIT];
         for (variable, line) in self.rows.iter().zip(self.cells.iter()) {
@@ -421,16 +425,14 @@ impl<'a> Tableau<'a> {
         prices
     }
 
-    // The price of a row, which is 0 if it is not basic.
-    fn fee(&self) -> u64
-        ensures { result < weight_limit }
-    {
-        for (variable, line) in self.rows.iter().zip(self.cells.iter()) {
-            if let Meaning::Fee = variable.meaning {
-                return u64::from(price_of(line[self.places.len()]));
-            }
-        }
-        0
+    // The price of a row: 0 if it is not basic, which is what it is worth then and stands for nothing that is missing.
+    fn fee(&self) -> u32 {
+        let side = self.places.len();
+        self.rows
+            .iter()
+            .zip(self.cells.iter())
+            .find(|(variable, _)| matches!(variable.meaning, Meaning::Fee))
+            .map_or(0, |(_, line)| price_of(line[side]))
     }
 
     // Notes the share of each row of the matrix: what its slack costs, and 0 where that is basic.
@@ -457,8 +459,8 @@ impl<'a> Tableau<'a> {
     }
 }
 
-// Prices by the linear program, in which `need` rows are needed, and which may stop where the prices are worth more than the target. They are 0 where there
-// is no linear program.
+// Prices by the linear program, in which `need` rows are needed, and which may stop where the prices are worth more than the target; of either number no more
+// than 2 ^ 32 counts. The prices are 0 where there is no linear program.
 pub fn prices(
     problem: &Subproblem,
     need: u64,
@@ -469,7 +471,7 @@ pub fn prices(
     ensures { result.fee < weight_limit }
 {
     let places = places_of(problem.undecided, need);
-    let Some(rows) = load_rows(problem, places.len(), cells) else {
+    let Some(rows) = load_rows(problem, &places, cells) else {
         return Priced {
             prices: [0; columns::LIMIT],
             fee: 0,
@@ -487,7 +489,7 @@ pub fn prices(
     tableau.recall(optimal, recalled);
     Priced {
         prices: tableau.prices(),
-        fee: tableau.fee(),
+        fee: u64::from(tableau.fee()),
         optimal,
     }
 }

@@ -25,7 +25,11 @@ freed_is k q =
     let e : (2 - d) * 3 ^ k + d * 3 ^ k ≡ 2 * 3 ^ k = sym (add-mul (2 - d) d (3 ^ k)) ∙ ap (λ (i : ℕ). i * 3 ^ k) (sub-add_cancel (le_of_suc-le-suc (digit_lt k q))) in
     omega (arith, put_weight k 2 q)
 
-pub freed_lt : (n k q : ℕ) → k < n → q < 3 ^ n → freed k q < 3 ^ n
+-- the number that a cube has with digit k made 2, which weighs as much more as the digit weighed less
+pub freed_put : (k q p : ℕ) → p + digit k q * 3 ^ k ≡ q + 2 * 3 ^ k → p ≡ freed k q
+freed_put k q p e = omega (arith, freed_is k q, put_weight k 2 q)
+
+freed_lt : (n k q : ℕ) → k < n → q < 3 ^ n → freed k q < 3 ^ n
 freed_lt n k q l h = subst⁻¹ (λ (i : ℕ). i < 3 ^ n) (freed_is k q) (put_lt n k 2 q l (lit< tt) h)
 
 module _ (n : ℕ) (t : List ℕ) (kinds : List Kind) (m : Kinds n t kinds (3 ^ n)) where

@@ -1,6 +1,6 @@
 -- What the steps note of each cube: its kind, that is whether it is an implicant and whether an implicant serves; then whether it is a prime that serves.
 -- Assumes nothing.
-use Rattle.std.specs.Prelude.{◌≡◌, ℕ, ◌+◌, ◌*◌, ◌-◌, ◌^◌, ◌<◌, ◌≤◌, Bool, true, false, cond, not, ◌&&◌, ◌||◌, List, get_or}
+use Rattle.std.specs.Prelude.{◌≡◌, ℕ, ◌+◌, ◌*◌, ◌-◌, ◌^◌, ◌<◌, ◌≤◌, Bool, true, false, cond, not, ◌&&◌, ◌||◌, List, length, get_or}
 use Rattle.numbers.specs.Below.{some}
 use Rattle.cube.specs.Words.{tested, digit, implicant, serves}
 use Rattle.primes.specs.declared.Kind.{Kind}
@@ -17,6 +17,11 @@ kind_of n t q = kind (implicant n t q) (serves n t q)
 -- the kinds of the cubes below m
 abbrev pub Kinds : ℕ → List ℕ → List Kind → ℕ → Type 0
 Kinds n t kinds m = (q : ℕ) → q < m → get_or kinds q NoImplicant ≡ kind_of n t q
+
+-- a list of the kinds of the first m cubes, one for each
+pub record KindsOf (n : ℕ) (t : List ℕ) (kinds : List Kind) (m : ℕ) : Type 0 where
+  pub each : length kinds ≡ m
+  pub right : Kinds n t kinds m
 
 -- the kind of a cube by the kinds of its halves: it is an implicant if both are, and serves if either does
 abbrev pub Joins : Kind → Kind → Kind → Type 0

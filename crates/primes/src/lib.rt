@@ -12,17 +12,19 @@ ghost use Rattle.numbers.specs.Lent.{Puts};
 ghost use Rattle.cube.specs.Words.{serving_prime, serving_primes_of};
 ghost use Rattle.cube.specs.Calls.{widest, Listed};
 ghost use Rattle.tables.specs.Listing.{primes_refuses};
-ghost use Rattle.primes.specs.Steps.{kind, kind_of, Kinds, Joins, MarksBelow, is_marked, expands_by, serving_prime_by};
+ghost use Rattle.primes.specs.Steps.{kind, kind_of, KindsOf, Joins, MarksBelow, is_marked, expands_by, serving_prime_by};
 
+use arrayvec::ArrayVec;
 use cells::Split;
 use cube::Refusal;
-use spelling::MOST_CUBES;
+use spelling::{Cube, MOST_CUBES};
 use tables::Table;
 
 // What is noted of a cube: of two kinds of implicants the greater one tells whether one of them serves.
-#[derive(Clone, Copy, PartialEq, Eq, PartialOrd, Ord)]
+#[derive(Clone, Copy, Default, PartialEq, Eq, PartialOrd, Ord)]
 enum Kind {
     // It is no implicant.
+    #[default]
     NoImplicant,
     // It is an implicant that matches free codes alone.
     Idle,
@@ -52,58 +54,69 @@ fn joined_kind(low: Kind, high: Kind) -> Kind
     }
 }
 
-// The kind of cube q: from its cell, or from the kinds of its halves.
+// The kind of cube q, with the kinds of the cubes before it: from its cell, or from the kinds of its halves.
 fn cube_kind(table: Table, kinds: &[Kind], q: usize) -> Kind
     requires cube { q < 3 ^ table.width }
-    requires enough { 3 ^ table.width ≤ length kinds.now }
-    requires lower { Kinds table.width table.cells.now kinds.now q }
+    requires lower { KindsOf table.width table.cells.now kinds.now q }
     ensures { result ≡ kind_of table.entry.width table.entry.cells.now q }
 {
-    match cells::split_at_first(table.width, q) {
-        Split::Code(code) => code_kind(table.cells[code as usize]),
-        Split::Halves(low, high) => joined_kind(kinds[low], kinds[high]),
+    let width = table.width;
+    match cells::split_at_first(Cube { width, number: q }) {
+        Split::Code(code) => code_kind(table.cells[usize::from(code)]),
+        Split::Halves(low, high) => joined_kind(kinds[low.number], kinds[high.number]),
     }
 }
 
-// Notes the kinds of the cubes of a table.
-fn note_kinds(table: Table, kinds: &mut [Kind])
-    requires { 3 ^ table.width ≤ length kinds.old }
-    ensures { Kinds table.entry.width table.entry.cells.now kinds.new (3 ^ table.entry.width) }
+// The kinds of the cubes of a table, each made from those before it. An `ArrayVec` is pushed to in a loop, here and in the crates above: its `extend` and
+// `collect` answer a `Result`, an error where an item finds the list full, which each function would have to rule out; `push` asks for room instead.
+fn cube_kinds(table: Table) -> ArrayVec<Kind, MOST_CUBES>
+    ensures { KindsOf table.entry.width table.entry.cells.now result.items (3 ^ table.entry.width) }
 {
+    let mut kinds = ArrayVec::new();
     for q in 0..table.cubes() {
-        kinds[q] = cube_kind(table, kinds, q);
+        let kind = cube_kind(table, kinds.as_slice(), q);
+        kinds.push(kind);
     }
+    kinds
 }
 
-// Whether digit k of q is a literal that can be given up.
-fn expands(n: usize, kinds: &[Kind], q: usize, k: usize) -> bool
-    requires { (n ≤ widest) × (3 ^ n ≤ length kinds.now) × (q < 3 ^ n) × (k < n) }
-    ensures { result ≡ expands_by kinds.now q k }
-{
-    let d = spelling::digit(q, k);
-    if d == 2 {
-        return false;
+// The kinds of the cubes of `width` digits.
+#[derive(Clone, Copy)]
+struct CubeKinds<'a> {
+    width: usize,
+    kinds: &'a [Kind],
+    ghost narrow: { width ≤ widest },
+    ghost enough: { 3 ^ width ≤ length kinds.now },
+}
+
+impl CubeKinds<'_> {
+    // Whether digit k of a cube is a literal that can be given up.
+    fn expands(self, cube: Cube, k: usize) -> bool
+        requires { (cube.width ≡ self.width) × (k < self.width) }
+        ensures { result ≡ expands_by self.entry.kinds.now cube.number k }
+    {
+        spelling::digit(cube.number, k) != 2
+            && self.kinds[cube.with_digit(k, 2).number] != Kind::NoImplicant
     }
-    let wider = q + (2 - d) * spelling::cubes(k);
-    kinds[wider] != Kind::NoImplicant
-}
 
-// Whether q is an implicant that serves and of which no literal can be given up.
-#[tactic(auto, unfolding(crate::specs::Steps::serving_prime_by))]
-fn is_serving_prime(n: usize, kinds: &[Kind], q: usize) -> bool
-    requires { (n ≤ widest) × (3 ^ n ≤ length kinds.now) × (q < 3 ^ n) }
-    ensures { result ≡ serving_prime_by n kinds.now q }
-{
-    kinds[q] == Kind::Serving && !(0..n).any(|k| expands(n, kinds, q, k))
-}
+    // Whether a cube is an implicant that serves and of which no literal can be given up.
+    #[tactic(auto, unfolding(crate::specs::Steps::serving_prime_by))]
+    fn is_serving_prime(self, cube: Cube) -> bool
+        requires { cube.width ≡ self.width }
+        ensures { result ≡ serving_prime_by self.entry.width self.entry.kinds.now cube.number }
+    {
+        self.kinds[cube.number] == Kind::Serving && !(0..self.width).any(|k| self.expands(cube, k))
+    }
 
-// Marks the primes that serve by the kinds of the cubes.
-fn mark_maximal(n: usize, kinds: &[Kind], marks: &mut [bool])
-    requires { (n ≤ widest) × (3 ^ n ≤ length kinds.now) × (3 ^ n ≤ length marks.old) }
-    ensures { MarksBelow (3 ^ n) (serving_prime_by n kinds.now) marks.old marks.new }
-{
-    for q in 0..spelling::cubes(n) {
-        marks[q] = is_serving_prime(n, kinds, q);
+    // Marks the primes that serve.
+    fn mark_maximal(self, marks: &mut [bool])
+        requires { 3 ^ self.width ≤ length marks.old }
+        ensures { MarksBelow (3 ^ self.entry.width) (serving_prime_by self.entry.width self.entry.kinds.now) marks.old marks.new }
+    {
+        let width = self.width;
+        for (q, mark) in marks[..spelling::cubes(width)].iter_mut().enumerate() {
+            *mark = self.is_serving_prime(Cube { width, number: q });
+        }
     }
 }
 
@@ -113,12 +126,15 @@ pub fn mark_serving_primes(table: Table, marks: &mut [bool])
     ensures { MarksBelow (3 ^ table.entry.width) (serving_prime table.entry.width table.entry.cells.now)
         marks.old marks.new }
 {
-    let mut kinds = [Kind::NoImplicant; MOST_CUBES];
-    note_kinds(table, &mut kinds);
-    mark_maximal(table.width, &kinds, marks);
+    let kinds = cube_kinds(table);
+    let kinds = CubeKinds {
+        width: table.width,
+        kinds: kinds.as_slice(),
+    };
+    kinds.mark_maximal(marks);
 }
 
-// Lists the marked numbers, ascending, and returns how many there are.
+// Lists the marked numbers, ascending, and returns how many there are. They are counted beside the places, which are the caller's, as C lends them.
 fn list_all_marked(marks: &[bool], out: &mut [u16]) -> usize
     requires { (length marks.now ≤ 3 ^ widest) × (length marks.now ≤ length out.old) }
     ensures { Puts (those (length marks.now) (is_marked marks.now)) out.old 0 out.new result }

@@ -1,15 +1,15 @@
 -- The text of a list is 1 exactly on the codes that no row matches, by De Morgan: a row matches a code where each of its digits fits its bit, and the
 -- literal of a digit is 1 exactly where the digit does not fit; so the sum of a row is 1 where the row does not match. Assumes nothing.
 use mathlib.Core.Path.{◌≡◌, refl, sym, ap, ap₂, ◌∙◌, subst, subst⁻¹}
-use mathlib.Core.Bool.{Bool, true, false, not, ◌&&◌, ◌||◌}
+use mathlib.Core.Bool.{Bool, true, false, not, ◌&&◌, ◌||◌, or-false, not-not}
 use mathlib.Core.List.{[], ◌∷◌, ◌++◌}
 use Prim.Native.Nat.{ℕ, zero, suc, ◌+◌, ◌-◌, ◌<◌}
 use native.Mathlib.Numerals.{add-one}
 use native.Mathlib.Omega.{arith}
-use lib.Dec.{T, eqb}
+use lib.Dec.{T, eqb, T_not}
 use Rattle.numbers.specs.Below.{some}
 use Rattle.numbers.proofs.Below.{none_at, none_by}
-use Rattle.numbers.proofs.Bools.{and_l, and_r, or_exchange, not_or, not_e, same}
+use Rattle.numbers.proofs.Bools.{and_l, and_r, or_exchange, not_or, same}
 use Rattle.cube.specs.Words.{Row, Cover, row_matches, formed, each_row, all_formed, cover_matches, fits, digit_of, cube_matches, number_of}
 use Rattle.cube.specs.Theorems.{bit_of_variable, digit_of_variable, Variable}
 use Rattle.cube.proofs.Positions.{positions}
@@ -19,10 +19,6 @@ use Rattle.product.specs.Value.{literal_value, sum_value, product_value, TextVal
 use Rattle.product.specs.Theorems.{ExcludesMatched}
 use Rattle.product.proofs.Writing.{literals_more}
 use Rattle.product.proofs.Reading.{read_one_way}
-
-not_not : (b : Bool) → not (not b) ≡ b
-not_not true = refl
-not_not false = refl
 
 not_fails : (b : Bool) → (T (not b) → ⊥) → T b
 not_fails true h = tt
@@ -52,11 +48,7 @@ digit_value n c k (suc (suc (suc d))) l = absurd (omega arith)
 
 sum-append : (n c : ℕ) (ls ms : Sum) → sum_value n c (ls ++ ms) ≡ (sum_value n c ms || sum_value n c ls)
 unfolding sum_value
-sum-append n c [] ms = none (sum_value n c ms)
-  where
-    none : (b : Bool) → b ≡ (b || false)
-    none true = refl
-    none false = refl
+sum-append n c [] ms = sym (or-false (sum_value n c ms))
 sum-append n c (l ∷ ls) ms =
     ap (λ (b : Bool). literal_value n c l || b) (sum-append n c ls ms) ∙ or_exchange (literal_value n c l) (sum_value n c ms) (sum_value n c ls)
 
@@ -100,11 +92,11 @@ module _ (n c : ℕ) (r : Row) where
         each : (i : ℕ) → i < n → T (is_one i) → ⊥
         each i l x =
             let v : Variable n (1 + i) = (omega arith, omega arith) in
-            not_e (fits (digit (1 + i)) (bit_of_variable n (1 + i) c)) (subst T (variable_value (1 + i) v) x) (((positions n).matches (number_of n r) c).0 h (1 + i) v)
+            T_not (fits (digit (1 + i)) (bit_of_variable n (1 + i) c)) (subst T (variable_value (1 + i) v) x) (((positions n).matches (number_of n r) c).0 h (1 + i) v)
 
     row_value : sum_value n c (row_sum n r) ≡ not (row_matches r c)
     row_value =
-        some_one n ∙ sym (not_not (some n is_one))
+        some_one n ∙ sym (not-not (some n is_one))
         ∙ ap not (same (not (some n is_one)) (cube_matches n (number_of n r) c) none_one matches_none ∙ sym (row_is_cube n r f c))
 
 -- ---- a list

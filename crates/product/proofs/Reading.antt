@@ -9,7 +9,7 @@ use Prim.Native.Nat.{ℕ, zero, suc, ◌+◌, ◌-◌, ◌*◌, ◌/◌, ◌%◌
 use native.Mathlib.Omega.{arith}
 use lib.Dec.{ltb}
 use borrow.Author.Tests.{le-ltb}
-use Rattle.numbers.proofs.Bools.{lt_or_le}
+use Rattle.std.proofs.lemmas.Bool.{cases_lt}
 use Rattle.text.specs.Characters.{bytes, digit_character}
 use Rattle.text.specs.Output.{in_decimal}
 use Rattle.text.proofs.Decimals.{decimals}
@@ -54,7 +54,7 @@ decimal_read (suc k) x l s =
     (λ h.
     ap (λ (digits : List ℕ). number 0 (digits ++ s)) ((decimals x).high h) ∙ ap (number 0) (append_assoc (in_decimal (x / 10)) last s)
     ∙ decimal_read k (x / 10) (omega arith) (last ++ s) ∙ digit-read (x / 10) (x % 10) s ∙ ap (λ (y : ℕ). number y s) same)
-    (lt_or_le x 10)
+    (cases_lt x 10)
 
 -- ---- literals
 

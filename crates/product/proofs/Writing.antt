@@ -1,12 +1,13 @@
 -- The text of a sum literal by literal and that of a product sum by sum, as the functions write them: what is written and what is left are the whole.
 -- Assumes nothing.
-use Rattle.std.proofs.Common.{ℕ, zero, suc, ◌+◌, ◌-◌, ◌<◌, ◌≡◌, Bool, true, false, Option, Some, None, List, [], ◌∷◌, ◌++◌, arith, refl, sym, ap, ap₂, ◌∙◌, append-nil, append_assoc, add-zero, zero-add, suc-add}
+use Rattle.std.proofs.Common.{ℕ, zero, suc, ◌+◌, ◌-◌, ◌<◌, ◌≤◌, ◌≡◌, Bool, true, false, Option, Some, None, List, [], ◌∷◌, ◌++◌, length, arith, refl, sym, ap, ap₂, ◌∙◌, append-nil, append_assoc, add-zero, zero-add, suc-add}
 use Prim.Native.Char.{code}
-use Rattle.cube.specs.Words.{Row, digit_of}
+use Rattle.std.proofs.lemmas.List.{nil_from_length}
+use Rattle.cube.specs.Words.{Row, digit_of, rows_of}
 use Rattle.cube.specs.Theorems.{bit_of_variable}
 use Rattle.text.specs.Characters.{bytes}
 use Rattle.text.specs.Steps.{digit_number}
-use Rattle.product.specs.Product.{Sum, literal_text, joined_text, sum_text, literals_of_digit, literals_of_variable, literals_from}
+use Rattle.product.specs.Product.{Sum, literal_text, joined_text, sum_text, sums_text, product_of, excluding_text, literals_of_digit, literals_of_variable, literals_from}
 use Rattle.product.specs.Steps.{literal_of, rest_text}
 
 -- ---- the literals of a row
@@ -41,32 +42,49 @@ all_left [] = refl
 all_left (l ∷ ls) =
     ap (λ (t : List ℕ). (code "(" ∷ literal_text l) ++ t) (joined_rest ls) ∙ sym (append_assoc (bytes "(" ++ literal_text l) (joined_text ls) (bytes ")"))
 
--- the variables from x(i + 1) on are left of a row, and t is the bit that it tests of the first of these
-module _ (n : ℕ) (r : Row) (i : ℕ) (l : i < n) (t : Option Bool)
-    (e : digit_number t ≡ digit_of (bit_of_variable n (i + 1) r.value) (bit_of_variable n (i + 1) r.care)) where
-  abbrev left : ℕ → Sum
-  left j = literals_from n r (n - j) (j + 1)
+-- behind what is written the literals of a row from xk on are left of a whole text, where this character is before the next one
+abbrev pub Left : ℕ → Row → List ℕ → ℕ → ℕ → List ℕ → Type 0
+Left n r all k before out = (k ≤ n + 1) × (before < 128) × (out ++ rest_text before (literals_from n r (n + 1 - k) k) ≡ all)
 
-  more : left i ≡ literals_of_digit (i + 1) (digit_number t) ++ left (i + 1)
+-- the variables from xk on are left of a row, and t is the bit that it tests of the first of these
+module _ (n : ℕ) (r : Row) (k : ℕ) (l : k ≤ n) (t : Option Bool)
+    (e : digit_number t ≡ digit_of (bit_of_variable n k r.value) (bit_of_variable n k r.care)) where
+  abbrev left : ℕ → Sum
+  left j = literals_from n r (n + 1 - j) j
+
+  more : left k ≡ literals_of_digit k (digit_number t) ++ left (k + 1)
   unfolding literals_from
   more =
-      let next : n - i ≡ suc (n - (i + 1)) = omega arith in
-      let behind : suc (i + 1) ≡ i + 1 + 1 = omega arith in
-      ap (λ (m : ℕ). literals_from n r m (i + 1)) next ∙ ap₂ (λ (d k : ℕ). literals_of_digit (i + 1) d ++ literals_from n r (n - (i + 1)) k) (sym e) behind
+      let next : n + 1 - k ≡ suc (n + 1 - (k + 1)) = omega arith in
+      let behind : suc k ≡ k + 1 = omega arith in
+      ap (λ (m : ℕ). literals_from n r m k) next ∙ ap₂ (λ (d j : ℕ). literals_of_digit k d ++ literals_from n r (n + 1 - (k + 1)) j) (sym e) behind
 
-  pub none_tested : (before : ℕ) → ((c : Bool) → t ≡ Some c → ⊥) → rest_text before (left i) ≡ rest_text before (left (i + 1))
-  none_tested before q = ap (rest_text before) (more ∙ ap (λ (t : Option Bool). literals_of_digit (i + 1) (digit_number t) ++ left (i + 1)) (none t q))
+  pub none_tested : (before : ℕ) → ((c : Bool) → t ≡ Some c → ⊥) → rest_text before (left k) ≡ rest_text before (left (k + 1))
+  none_tested before q = ap (rest_text before) (more ∙ ap (λ (t : Option Bool). literals_of_digit k (digit_number t) ++ left (k + 1)) (none t q))
     where
       none : (t : Option Bool) → ((c : Bool) → t ≡ Some c → ⊥) → t ≡ None
       none None q = refl
       none (Some c) q = absurd (q c refl)
 
   pub one_tested : (before : ℕ) (c : Bool) → t ≡ Some c
-      → rest_text before (left i) ≡ (before ∷ literal_text (literal_of (i + 1) c)) ++ rest_text (code "+") (left (i + 1))
+      → rest_text before (left k) ≡ (before ∷ literal_text (literal_of k c)) ++ rest_text (code "+") (left (k + 1))
   unfolding rest_text
   one_tested before c q =
-      ap (rest_text before) (more ∙ ap (λ (t : Option Bool). literals_of_digit (i + 1) (digit_number t) ++ left (i + 1)) q ∙ go c)
+      ap (rest_text before) (more ∙ ap (λ (t : Option Bool). literals_of_digit k (digit_number t) ++ left (k + 1)) q ∙ go c)
     where
-      go : (c : Bool) → literals_of_digit (i + 1) (digit_number (Some c)) ++ left (i + 1) ≡ literal_of (i + 1) c ∷ left (i + 1)
+      go : (c : Bool) → literals_of_digit k (digit_number (Some c)) ++ left (k + 1) ≡ literal_of k c ∷ left (k + 1)
       go true = refl
       go false = refl
+
+-- ---- the text of a list
+
+module _ (n : ℕ) where
+  pub no_row : (vs ws : List ℕ) → length vs ≡ 0 → excluding_text n (rows_of vs ws) ≡ bytes "1"
+  unfolding rows_of
+  no_row vs ws e = ap (λ (vs : List ℕ). excluding_text n (rows_of vs ws)) (nil_from_length vs e)
+
+  pub some_row : (vs ws : List ℕ) → (length vs ≡ 0 → ⊥) → length vs ≡ length ws → excluding_text n (rows_of vs ws) ≡ sums_text (product_of n (rows_of vs ws))
+  unfolding rows_of
+  some_row [] ws e l = absurd (e refl)
+  some_row (v ∷ vs) [] e l = absurd (omega arith)
+  some_row (v ∷ vs) (w ∷ ws) e l = refl

@@ -7,7 +7,6 @@
 ghost use Rattle.std.specs.Prelude.{◌≡◌, ◌++◌, ◌+◌, ◌<◌, ◌≤◌, length};
 ghost use Rattle.arrayvec.specs.ArrayString.{array_string_len};
 ghost use Rattle.cube.specs.Words.{rows_of};
-ghost use Rattle.text.specs.Steps.{most_variables};
 ghost use Rattle.product.specs.Product.{literal_text, sum_text, row_sum, excluding_text, excluding_line};
 ghost use Rattle.product.specs.Steps.{literal_of, last_character};
 
@@ -32,7 +31,8 @@ fn literal<const N: usize>(k: usize, one: bool, out: &mut ArrayString<N>)
     }
 }
 
-// The last character of a sum, where this one would be before its next literal.
+// The last character of a sum, where this one would be before its next literal: `0` where that is the bracket, since then there is no literal. No flag stands
+// for that beside the character, which would say it twice.
 fn last(before: char) -> char
     ensures value { result ≡ last_character before }
     ensures ascii { result < 128 }
@@ -42,15 +42,14 @@ fn last(before: char) -> char
 
 // The sum of a row, x1 first. A bracket is before its first literal, and a plus sign before each further one.
 fn sum<const N: usize>(n: usize, row: Row, out: &mut ArrayString<N>)
-    requires width { n ≤ most_variables }
-    requires room { array_string_len out.old + length (sum_text (row_sum n row)) ≤ N }
+    requires { array_string_len out.old + length (sum_text (row_sum n row)) ≤ N }
     ensures { out.new.bytes ≡ out.old.bytes ++ sum_text (row_sum n row) }
 {
     let mut before = '(';
-    for i in 0..n {
-        if let Some(one) = output::tested(n, i + 1, row) {
+    for k in 1..=n {
+        if let Some(one) = output::tested(n, k, row) {
             out.push(before);
-            literal(i + 1, one, out);
+            literal(k, one, out);
             before = '+';
         }
     }
@@ -58,28 +57,23 @@ fn sum<const N: usize>(n: usize, row: Row, out: &mut ArrayString<N>)
 }
 
 // The sums of a list; 1 where there is no row.
+#[tactic(auto, using(crate::proofs::Writing::no_row, crate::proofs::Writing::some_row), unfolding(crate::specs::Product::sums_text))]
 fn sums<const N: usize>(n: usize, rows: Rows, out: &mut ArrayString<N>)
-    requires width { n ≤ most_variables }
-    requires room { array_string_len out.old + length (excluding_text n (rows_of rows.values.now rows.cares.now)) ≤ N }
+    requires { array_string_len out.old + length (excluding_text n (rows_of rows.values.now rows.cares.now)) ≤ N }
     ensures { out.new.bytes ≡ out.old.bytes ++ excluding_text n (rows_of rows.entry.values.now rows.entry.cares.now) }
 {
-    if rows.values.is_empty() {
+    if rows.is_empty() {
         out.push_str("1");
         return;
     }
-    for (value, care) in rows.values.iter().zip(rows.cares) {
-        let row = Row {
-            value: *value,
-            care: *care,
-        };
+    for row in rows {
         sum(n, row, out);
     }
 }
 
 // What is printed for a list: its product of sums on one line.
 pub fn line<const N: usize>(n: usize, rows: Rows) -> ArrayString<N>
-    requires width { n ≤ most_variables }
-    requires room { length (excluding_line n (rows_of rows.values.now rows.cares.now)) ≤ N }
+    requires { length (excluding_line n (rows_of rows.values.now rows.cares.now)) ≤ N }
     ensures { result.bytes ≡ excluding_line n (rows_of rows.entry.values.now rows.entry.cares.now) }
 {
     let mut out = ArrayString::new();

@@ -15,7 +15,7 @@ fn narrow(along: &mut Companions, row: columns::Set, undecided: columns::Set)
 {
     let set = row & undecided;
     for c in set {
-        along[c] = along[c] & row;
+        along[c] &= row;
     }
 }
 
@@ -24,7 +24,7 @@ fn come_along(problem: &Subproblem) -> Companions
     ensures { let p = problem.now in Along p.matrix.words.now p.live.now p.undecided (row_count p.matrix.words.now) result }
 {
     let mut along = [columns::ALL; columns::LIMIT];
-    for i in problem.live.iter(problem.matrix.rows()) {
+    for i in problem.rows() {
         narrow(&mut along, problem.matrix.columns_of(i), problem.undecided);
     }
     along
@@ -38,7 +38,7 @@ pub fn drop_columns(problem: &Subproblem) -> columns::Set
     let mut kept = problem.undecided;
     for d in problem.undecided {
         if kept.contains(d) {
-            kept = kept - (along[d] - columns::Set::only(d));
+            kept -= along[d] - columns::Set::only(d);
         }
     }
     kept

@@ -21,16 +21,12 @@ pub use remaining::Remaining;
 fn pass(matrix: Matrix, state: &mut Remaining)
     ensures { Onward matrix.entry.words.now matrix.entry.weights.now state.old state.new }
 {
-    state.undecided = column_dominance::drop_columns(&Subproblem {
-        matrix,
-        live: &state.live,
-        undecided: state.undecided,
-    });
-    row_dominance::drop_rows(matrix, &mut state.live, state.undecided);
+    state.undecided = column_dominance::drop_columns(&state.left(matrix));
+    state.live = row_dominance::drop_rows(&state.left(matrix));
     forced::take_forced(matrix, state);
 }
 
-// The reductions, repeated until no row is dropped or taken.
+// The reductions, repeated until no row is dropped or taken. It is not inlined: its sets are not to lie on the stack of whoever reduces on the way down.
 #[inline(never)]
 #[tactic(auto, using(crate::proofs::Steps::start, matrix::proofs::Without::size_fewer, matrix::proofs::Without::size_most))]
 pub fn cyclic_core(problem: &Subproblem) -> Remaining
@@ -44,6 +40,7 @@ pub fn cyclic_core(problem: &Subproblem) -> Remaining
     };
     let end = problem.matrix.rows();
     let mut size = problem.live.len(end);
+    // Nothing counts the rounds: the last is the one after which as many rows are live as before.
     loop {
         pass(problem.matrix, &mut state);
         let fewer = state.live.len(end);

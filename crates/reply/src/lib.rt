@@ -9,6 +9,7 @@ use arrayvec::ArrayString;
 use cube::Refusal;
 use lists::Rows;
 use spelling::MOST_CODE_PAIRS;
+use text::input::Text;
 use text::output::{self, MOST_OUTPUT};
 use text::program::{self, Program};
 
@@ -28,19 +29,19 @@ impl Program<MOST_OUTPUT> for RowsReply {
 
     // Two arrays, as C lends them to Plan. Not one function with that of `sums_reply`: it would take the call as a closure, with what the call promises beside it,
     // for these lines.
-    fn show(n: usize, cells: &[u8]) -> Result<ArrayString<MOST_OUTPUT>, Refusal> {
+    fn show(text: Text) -> Result<ArrayString<MOST_OUTPUT>, Refusal> {
         let mut values = [0u8; MOST_CODE_PAIRS];
         let mut cares = [0u8; MOST_CODE_PAIRS];
-        let totals = plan::plan(n, cells, &mut values, &mut cares)?;
+        let totals = plan::plan(text.width, text.cells, &mut values, &mut cares)?;
         let rows = Rows {
             values: &values[..totals.rows],
             cares: &cares[..totals.rows],
         };
-        Ok(output::list(n, rows, totals.bits))
+        Ok(output::list(text.width, rows, totals.bits))
     }
 }
 
-// What is printed for a whole input.
+// What is printed for a whole input. Not one function with that of `sums_reply`: each is the statement of its program, by `RowsFor` and by `SumsFor`.
 pub fn whole(input: &[u8]) -> ArrayString<MOST_OUTPUT>
     ensures { RowsFor input.now result.bytes }
 {

@@ -5,7 +5,8 @@
 use reply::RowsReply;
 use text::output::MOST_OUTPUT;
 
-// Not one function with the main of `sums`: what differs, the program, its longest text and its complaint, is all that they say.
+// Not one function with the main of `sums`: `send` asks of each, for its own program, that the whole output is handed on. A function for both would ask nothing of
+// its caller.
 fn main(rt: HostRuntime) {
     let text = streams::answer::<RowsReply, _, MOST_OUTPUT>(&mut rt.stdin());
     streams::send::<RowsReply, _, _, MOST_OUTPUT>(

@@ -14,10 +14,10 @@ use Rattle.matrix.proofs.Without.{left_in, left_out, left_rest}
 use Rattle.reduction.specs.Reduction.{Reduces}
 use Rattle.reduction.specs.declared.remaining.Remaining.{Remaining}
 use Rattle.bound.specs.Bound.{Bounds, Kept}
-use Rattle.incumbent.specs.Incumbent.{above_all, Incumbent, Uncovered}
+use Rattle.incumbent.specs.Incumbent.{weight_or, above_all, Incumbent, Uncovered}
 use Rattle.incumbent.specs.declared.Cover.{Cover}
 use Rattle.search.specs.Search.{Coverable, MinimumCover}
-use Rattle.search.specs.Steps.{weight_or, LightestBelow, Found, Branch, Taking, WithTaken}
+use Rattle.search.specs.Steps.{LightestBelow, Found, Branch, Taking, WithTaken}
 
 module _ (words weights : List ℕ) where
   -- ---- where the search branches

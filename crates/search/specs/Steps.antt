@@ -8,13 +8,6 @@ use Rattle.matrix.specs.Matrix.{row_count, CoversColumn, weight_of, Low}
 use Rattle.bound.specs.Bound.{cost_limit, Kept}
 use Rattle.incumbent.specs.declared.Cover.{Cover}
 
--- ---- covers that may be missing
-
--- what a cover weighs, or the limit where there is none
-abbrev pub weight_or : ℕ → Option Cover → ℕ
-weight_or limit None = limit
-weight_or limit (Some c) = c.weight
-
 -- a cover, if there is one, weighs less than `cost_limit`
 abbrev pub IsSmall : Option Cover → Type 0
 IsSmall cover = IfSome cover (λ c. c.weight < cost_limit)

@@ -1,7 +1,7 @@
 // The row to branch on. Any live row would do: which one is a heuristic. This one is the widest for the undecided column whose rows together cover the most
 // columns for their number.
-ghost use Rattle.std.specs.Prelude.{◌≡◌, ℕ, ◌<◌, ◌≤◌};
-ghost use Rattle.matrix.specs.Matrix.{row_count, weight_limit};
+ghost use Rattle.std.specs.Prelude.{ℕ, ◌<◌, ◌≤◌};
+ghost use Rattle.matrix.specs.Matrix.{row_count};
 ghost use Rattle.matrix.specs.Sets.{column_limit, In};
 ghost use Rattle.search.specs.Steps.{Branch, ColumnOf, RowFor};
 
@@ -18,10 +18,11 @@ impl Column {
     // One more row.
     fn add(&mut self, row: columns::Set) {
         self.rows = self.rows.wrapping_add(1);
-        self.near = self.near | row;
+        self.near |= row;
     }
 
-    // Whether the rows bring more columns in proportion than those of another column, with one row added to each.
+    // Whether the rows bring more columns in proportion than those of another column, with one row added to each. They are compared by
+    // products, as in `incumbent::greedy::cheaper`.
     fn is_denser(&self, other: &Column) -> bool {
         times(other.near.len(), self.rows) < times(self.near.len(), other.rows)
     }
@@ -40,8 +41,8 @@ fn columns_seen(problem: &Subproblem) -> [Column; columns::LIMIT] {
         rows: 0,
         near: columns::NONE,
     }; columns::LIMIT];
-    for i in problem.live.iter(problem.matrix.rows()) {
-        let row = problem.matrix.columns_of(i) & problem.undecided;
+    for i in problem.rows() {
+        let row = problem.columns_of(i);
         for c in row {
             seen[c].add(row);
         }
@@ -50,6 +51,7 @@ fn columns_seen(problem: &Subproblem) -> [Column; columns::LIMIT] {
 }
 
 // The undecided column whose rows together cover the most columns for their number.
+// A `for`: `reduce` was tried, and the proof that what it gives is one of the columns does not close.
 fn densest_column(problem: &Subproblem) -> usize
     requires { (c : ℕ) × In problem.now.undecided c }
     ensures { ColumnOf problem.now.undecided result }
@@ -68,13 +70,9 @@ fn densest_column(problem: &Subproblem) -> usize
 fn covers_more(problem: &Subproblem, i: usize, j: usize) -> bool
     requires { (i < row_count problem.now.matrix.words.now) × (j < row_count problem.now.matrix.words.now) }
 {
-    let matrix = problem.matrix;
-    let m = (matrix.columns_of(i) & problem.undecided).len();
-    let n = (matrix.columns_of(j) & problem.undecided).len();
-    if m == n {
-        return matrix.weight(i) < matrix.weight(j);
-    }
-    n < m
+    let m = problem.columns_of(i).len();
+    let n = problem.columns_of(j).len();
+    (n, problem.matrix.weight(i)) < (m, problem.matrix.weight(j))
 }
 
 // The live row for the column c that covers the most undecided columns.

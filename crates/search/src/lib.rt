@@ -9,15 +9,16 @@ ghost use Rattle.matrix.specs.Matrix.{row_count, weight_limit};
 ghost use Rattle.matrix.specs.Sets.{row_limit, In, Member};
 ghost use Rattle.search.specs.Search.{Coverable, MinimumCover};
 ghost use Rattle.bound.specs.Bound.{cost_limit};
-ghost use Rattle.search.specs.Steps.{BranchesBelow, Found, IsSmall, Lighter, Taking, weight_or, WithTaken};
+ghost use Rattle.search.specs.Steps.{BranchesBelow, Found, IsSmall, Lighter, Taking, WithTaken};
 
-use incumbent::{Cover, greedy};
+use incumbent::{Cover, greedy, limit_with};
 use matrix::{Matrix, Subproblem, columns, rows};
+use reduction::Remaining;
 
 pub mod branching;
 
 // The first limit: more than all rows can weigh.
-const FIRST_LIMIT: u64 = 1 << 42;
+pub const FIRST_LIMIT: u64 = 1 << 42;
 
 // What a search answers: the lightest cover, if there is one, and what it took: the nodes visited and the depth of the calls.
 #[derive(Clone, Copy)]
@@ -25,16 +26,6 @@ pub struct Solution {
     pub cover: Option<Cover>,
     pub nodes: u64,
     pub depth: u64,
-}
-
-// The limit of a search for a lighter cover: what this one weighs, or the limit so far where there is none.
-fn limit_with(cover: &Option<Cover>, limit: u64) -> u64
-    ensures { result ≡ weight_or limit cover.now }
-{
-    match cover {
-        Some(found) => found.weight,
-        None => limit,
-    }
 }
 
 // The row r, of weight w, with the answer for what it leaves.
@@ -53,14 +44,14 @@ fn taking(found: Solution, r: usize, w: u64) -> Solution
 }
 
 // The rows that a reduction took, with the answer for what it left: one more node, and one call deeper.
-fn with_taken(taken: &rows::Set, cost: u64, found: Solution) -> Solution
-    requires { (cost < cost_limit) × IsSmall found.cover }
-    ensures { WithTaken taken.now cost found.cover result.cover }
+fn with_taken(rest: &Remaining, found: Solution) -> Solution
+    requires { (rest.now.cost < cost_limit) × IsSmall found.cover }
+    ensures { WithTaken rest.now.taken rest.now.cost found.cover result.cover }
 {
     Solution {
-        cover: found.cover.map(|rest| Cover {
-            weight: cost + rest.weight,
-            rows: taken.union(&rest.rows),
+        cover: found.cover.map(|cover| Cover {
+            weight: rest.cost + cover.weight,
+            rows: rest.taken.union(&cover.rows),
         }),
         nodes: found.nodes.wrapping_add(1),
         depth: found.depth.wrapping_add(1),
@@ -90,6 +81,8 @@ fn leaf(cover: Option<Cover>) -> Solution
 }
 
 // Leaves the live rows that a cover below the limit can have, and answers the one of these to branch on, or `None` where no cover is below the limit.
+// The parts of a `Subproblem` come one by one: the rows are lent to be changed. Given back instead, they would come beside the row in a struct of their own.
+// It is not inlined, for the reason told at `bound`: what it calls has arrays, which are not to lie on the stack of the calls on the way down.
 #[inline(never)]
 fn branch_point(
     matrix: Matrix,
@@ -132,13 +125,8 @@ fn reduce(problem: &Subproblem, limit: u64) -> Solution
     match branch_point(problem.matrix, &mut rest.live, undecided, below) {
         None => leaf(None),
         Some(r) => {
-            let left = Subproblem {
-                live: &rest.live,
-                undecided,
-                ..*problem
-            };
-            let found = choose(&left, below, r);
-            with_taken(&rest.taken, rest.cost, found)
+            let found = choose(&rest.left(problem.matrix), below, r);
+            with_taken(&rest, found)
         }
     }
 }

@@ -7,11 +7,9 @@ ghost use Rattle.search_c.specs.Exported.{Exported};
 
 use matrix::{Matrix, columns, rows};
 
-// The answer to sizes that do not fit. It and the next are numbers, since C has no other answer.
+// The answer to sizes that do not fit. It and the answer where some column has no row, which is the first limit of the search, are numbers, since C has no
+// other answer.
 const REFUSED: u64 = u64::MAX;
-
-// The answer where some column has no row: more than all rows can weigh.
-const NO_COVER: u64 = 1 << 42;
 
 // The weight of a minimum cover, and what the search took.
 #[unsafe(no_mangle)]
@@ -23,17 +21,14 @@ pub extern "C" fn minimum_cover(
 ) -> u64
     ensures { Exported words.now weights.now columns effort.old result effort.new }
 {
-    if rows::LIMIT < words.len() {
+    if rows::LIMIT < words.len() || weights.len() != words.len() {
         return REFUSED;
     }
-    if weights.len() != words.len() {
-        return REFUSED;
-    }
-    let answer = search::minimum_cover(Matrix::new(words, weights), columns::Set::from(columns));
+    let answer = search::minimum_cover(Matrix { words, weights }, columns::Set::from(columns));
     effort[0] = answer.nodes;
     effort[1] = answer.depth;
     match answer.cover {
         Some(cover) => cover.weight,
-        None => NO_COVER,
+        None => search::FIRST_LIMIT,
     }
 }

@@ -3,6 +3,7 @@ ghost use Rattle.std.specs.Prelude.{◌≡◌, ◌<◌, ◌^◌};
 ghost use Rattle.cube.specs.Words.{row_of};
 ghost use Rattle.cube.specs.Calls.{widest};
 
+use crate::MOST_CUBES;
 use cube::Row;
 
 // Rows, each as its value and its care.
@@ -13,7 +14,7 @@ macro_rules! rows {
 }
 
 // Nine rows in each line, for the last two digits from 00 to 22.
-static ROWS: [Row; 729] = rows![
+static ROWS: [Row; MOST_CUBES] = rows![
     0 63, 1 63, 0 62, 2 63, 3 63, 2 62, 0 61, 1 61, 0 60,
     4 63, 5 63, 4 62, 6 63, 7 63, 6 62, 4 61, 5 61, 4 60,
     0 59, 1 59, 0 58, 2 59, 3 59, 2 58, 0 57, 1 57, 0 56,

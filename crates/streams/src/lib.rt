@@ -39,6 +39,7 @@ fn take_turn(reader: &mut Reader, piece: &[u8], got: io::Result<usize>) -> Contr
 }
 
 // Reads to the end. The count of turns makes the loop end; it never runs out.
+#[tactic(auto, using(crate::proofs::Pieces::read_none, crate::proofs::Pieces::read_wrong, crate::proofs::Pieces::read_more))]
 pub fn read_all<R: Read>(input: &mut R) -> Reader
     ensures { ReadAll result }
 {
@@ -55,6 +56,7 @@ pub fn read_all<R: Read>(input: &mut R) -> Reader
 }
 
 // What a program prints for its input.
+#[tactic(auto, using(text::proofs::Replies::input_said))]
 pub fn answer<P: Program<N>, R: Read, const N: usize>(input: &mut R) -> ArrayString<N>
     ensures { WholeOutput (ProgramOutput P.shown P.May) result.bytes }
 {

@@ -5,7 +5,8 @@
 use product::MOST_LINE;
 use sums_reply::SumsReply;
 
-// Not one function with the main of `rows`: what differs, the program, its longest text and its complaint, is all that they say.
+// Not one function with the main of `rows`: `send` asks of each, for its own program, that the whole output is handed on. A function for both would ask nothing of
+// its caller.
 fn main(rt: HostRuntime) {
     let text = streams::answer::<SumsReply, _, MOST_LINE>(&mut rt.stdin());
     streams::send::<SumsReply, _, _, MOST_LINE>(

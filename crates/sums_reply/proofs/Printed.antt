@@ -18,7 +18,7 @@ use Rattle.keep_out.specs.KeepOut.{MayKeepOut, PlansKeepOut}
 use Rattle.keep_out.specs.Theorems.{exchanged, HeldKeepOut}
 use Rattle.keep_out.proofs.Exchanging.{exchange}
 use Rattle.keep_out.proofs.Theorems.{plans_exchanged, arrays_keep_out}
-use Rattle.text.specs.Steps.{most_variables, ShowsTable}
+use Rattle.text.specs.Steps.{ShowsTable}
 use Rattle.product.specs.Product.{excluding_line}
 use Rattle.product.specs.Steps.{most_line}
 use Rattle.product.proofs.Lengths.{line_fits}
@@ -37,10 +37,7 @@ module _ (n : ℕ) (t values cares values' cares' : List ℕ) (v : 2 ^ (widest -
 
     table_width : n ≤ widest
     table_width =
-        (accepted n t (sym refusal_is ∙ not_refused n (exchanged t) values cares values' cares' totals ((plans_exchanged n t values cares values' cares' (Ok totals)).0 p))).to
-
-    pub line_width : n ≤ most_variables
-    line_width = omega (arith, table_width)
+        (accepted n t (sym refusal_is ∙ not_refused ((plans_exchanged n t values cares values' cares' (Ok totals)).0 p))).to
 
     pub line_room : length (excluding_line n list) ≤ most_line
     line_room = line_fits n list table_width (omega (arith, keeps.held.row_count, keeps.held.few, code_pairs_most n table_width))
@@ -49,4 +46,4 @@ module _ (n : ℕ) (t values cares values' cares' : List ℕ) (v : 2 ^ (widest -
     shows_line e = record { list = list; is_written = record { minimum = keeps.minimum; is_ascending = keeps.held.is_ascending }; is_text = e }
 
   pub refuses_keep_out : (e : Refusal) → PlansKeepOut n t values cares values' cares' (Err e) → refusal_number e ≡ first_of (table_conditions n t)
-  refuses_keep_out e p = sym (refused_by n (exchanged t) values cares values' cares' e ((plans_exchanged n t values cares values' cares' (Err e)).0 p)) ∙ refusal_is
+  refuses_keep_out e p = sym (refused_by ((plans_exchanged n t values cares values' cares' (Err e)).0 p)) ∙ refusal_is

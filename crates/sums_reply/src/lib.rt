@@ -10,6 +10,7 @@ use cube::Refusal;
 use lists::Rows;
 use product::MOST_LINE;
 use spelling::MOST_CODE_PAIRS;
+use text::input::Text;
 use text::program::{self, Program};
 
 // The program.
@@ -27,19 +28,19 @@ impl Program<MOST_LINE> for SumsReply {
     ghost room = { lit≤ tt };
 
     // Two arrays, as C lends them to the call. Why not one function with that of `reply`: see there.
-    fn show(n: usize, cells: &[u8]) -> Result<ArrayString<MOST_LINE>, Refusal> {
+    fn show(text: Text) -> Result<ArrayString<MOST_LINE>, Refusal> {
         let mut values = [0u8; MOST_CODE_PAIRS];
         let mut cares = [0u8; MOST_CODE_PAIRS];
-        let totals = keep_out::keep_out(n, cells, &mut values, &mut cares)?;
+        let totals = keep_out::keep_out(text.width, text.cells, &mut values, &mut cares)?;
         let rows = Rows {
             values: &values[..totals.rows],
             cares: &cares[..totals.rows],
         };
-        Ok(product::line(n, rows))
+        Ok(product::line(text.width, rows))
     }
 }
 
-// What is printed for a whole input.
+// What is printed for a whole input. Why not one function with that of `reply`: see there.
 pub fn whole(input: &[u8]) -> ArrayString<MOST_LINE>
     ensures { SumsFor input.now result.bytes }
 {

@@ -9,7 +9,8 @@ use native.Mathlib.Decide.{dec_lt, ℕ_discrete}
 use native.Mathlib.Omega.{arith}
 use lib.Dec.{eqb}
 use borrow.Author.Tests.{eqb-true}
-use Rattle.numbers.proofs.Flags.{clash, either_of, right_of}
+use Rattle.std.proofs.lemmas.Bool.{or_right}
+use Rattle.numbers.proofs.Flags.{clash, either_of}
 use Rattle.numbers.specs.Ascending.{passed}
 use Rattle.numbers.proofs.Loops.{Turn}
 use Rattle.covering.proofs.Exchanges.{ImageBy, exchanged}
@@ -48,13 +49,9 @@ module _ (words weights : List ℕ) (live : RowSet) (u : ColumnSet) (e : Exchang
     pub passed_found : {more' : RowSet} → Member found j → ((m : ℕ) → member more' m ≡ (eqb m i || member more m)) → Passed found more' (passed (ys ++ i ∷ []))
     passed_found h f = record {
       images = images_more;
-      kept = λ m k. right_of (eqb m i) (member more m) (f m) (p.kept m k);
+      kept = λ m k. f m ∙ or_right (eqb m i) _ (p.kept m k);
       new = λ m k. ⊎_elim (λ x. inr (subst (Taken found) (sym (eqb-true m i x)) (j, turn.here, image, h))) (p.new m) (either_of (eqb m i) (member more m) (sym (f m) ∙ k));
     }
-
-    -- it is another
-    pub passed_other : Passed found more (passed (ys ++ i ∷ []))
-    passed_other = record { images = images_more; kept = p.kept; new = p.new }
 
   -- ---- all live rows
 

@@ -4,7 +4,7 @@ use mathlib.Core.Path.{◌≡◌, refl, ap, ◌∙◌}
 use mathlib.Core.Bool.{Bool, true, false, cond, not, ◌&&◌, ◌||◌, and-true, and-false, or-true, or-false}
 use Prim.Native.Nat.{ℕ, ◌+◌, ◌-◌}
 use lib.Dec.{ltb, leb}
-use Rattle.numbers.proofs.Flags.{both_of}
+use Rattle.std.proofs.lemmas.Bool.{and_parts}
 use Rattle.matrix.specs.Sets.{column_limit, has, has_raised}
 use Rattle.symmetry.specs.Steps.{partner}
 use Rattle.symmetry.specs.declared.exchanges.Exchange.{Exchange}
@@ -23,8 +23,8 @@ module _ (e : Exchange) (set c : ℕ) where
   -- at a high column, the set raised has what the set has at the partner
   raised_at : (h : Bool) → has_raised e.low e.distance c ≡ h → (x : Bool) → cond h (has_raised set e.distance c) x ≡ cond h (has set (c - e.distance)) x
   raised_at true k x =
-      let below = both_of (ltb c column_limit) (leb e.distance c && has e.low (c - e.distance)) refl k in
-      let above = both_of (leb e.distance c) (has e.low (c - e.distance)) refl below.1 in
+      let below = and_parts (ltb c column_limit) (leb e.distance c && has e.low (c - e.distance)) k in
+      let above = and_parts (leb e.distance c) (has e.low (c - e.distance)) below.1 in
       rw (below.0, above.0)
   raised_at false k x = refl
 

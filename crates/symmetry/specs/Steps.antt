@@ -14,12 +14,6 @@ partner e c = cond (has_raised e.low e.distance c) (c - e.distance) (cond (has e
 
 -- ---- an image of a row
 
--- j is a live row that weighs no more than i and covers the columns of a set
-pub record StandsIn (words weights : List ℕ) (live : RowSet) (set : ColumnSet) (i j : ℕ) : Type 0 where
-  pub lives : Member live j
-  pub light : weight_of weights j ≤ weight_of weights i
-  pub inside : (c : ℕ) → In set c → CoversColumn words j c
-
 -- j is a live row that weighs no more than i and covers an undecided column where i covers its partner
 pub record Image (words weights : List ℕ) (live : RowSet) (u : ColumnSet) (e : Exchange) (i j : ℕ) : Type 0 where
   pub lives : Member live j

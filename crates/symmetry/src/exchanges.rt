@@ -4,6 +4,7 @@ ghost use Rattle.std.specs.Prelude.{◌≡◌, ℕ, ◌*◌, ◌^◌, ◌≤◌,
 ghost use Rattle.matrix.specs.Sets.{column_limit, has};
 
 use matrix::columns;
+use std::cmp::Ordering;
 
 // The bits of a column's number.
 pub const VARIABLES: usize = 6;
@@ -23,7 +24,7 @@ const SET_IN: [u64; VARIABLES] = [
 pub struct Exchange {
     pub low: columns::Set,
     pub distance: usize,
-    ghost near: { distance < column_limit },
+    pub ghost near: { distance < column_limit },
 }
 
 // What a variable adds to a column's number.
@@ -43,22 +44,20 @@ impl Exchange {
     {
         let in_a = columns::Set::from(SET_IN[a]);
         let in_b = columns::Set::from(SET_IN[b]);
-        if a < b {
-            return Exchange {
+        let neither = columns::ALL - (in_a | in_b);
+        match a.cmp(&b) {
+            Ordering::Less => Exchange {
                 low: in_a - in_b,
                 distance: value(b) - value(a),
-            };
-        }
-        let low = columns::ALL - (in_a | in_b);
-        if a == b {
-            return Exchange {
-                low,
+            },
+            Ordering::Equal => Exchange {
+                low: neither,
                 distance: value(a),
-            };
-        }
-        Exchange {
-            low,
-            distance: value(a) + value(b),
+            },
+            Ordering::Greater => Exchange {
+                low: neither,
+                distance: value(a) + value(b),
+            },
         }
     }
 

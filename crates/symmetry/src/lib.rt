@@ -11,21 +11,17 @@ ghost use Rattle.symmetry.specs.Symmetry.{Orbit};
 ghost use Rattle.symmetry.specs.Steps.{Grown};
 
 use exchanges::{Exchange, VARIABLES};
-use matrix::transposed::ByColumn;
-use matrix::{Subproblem, rows};
+use matrix::rows;
+use matrix::transposed::Indexed;
 
 pub mod exchanges;
 pub mod images;
 
 // The rows found so far and the live rows that the exchange takes to one of them, or the rows found alone where it does not keep what is left.
-fn grown(
-    problem: &Subproblem,
-    by_column: &ByColumn,
-    exchange: &Exchange,
-    found: &rows::Set,
-) -> rows::Set
-    ensures { let p = problem.now in Grown p.matrix.words.now p.matrix.weights.now p.live.now p.undecided found.now result }
+fn grown(indexed: &Indexed, exchange: &Exchange, found: &rows::Set) -> rows::Set
+    ensures { let p = indexed.now.problem in Grown p.matrix.words.now p.matrix.weights.now p.live.now p.undecided found.now result }
 {
+    let problem = &indexed.problem;
     if !problem
         .undecided
         .is_subset(exchange.of_set(problem.undecided))
@@ -33,8 +29,8 @@ fn grown(
         return *found;
     }
     let mut more = *found;
-    for i in problem.live.iter(problem.matrix.rows()) {
-        let Some(j) = images::image(problem, by_column, exchange, i) else {
+    for i in problem.rows() {
+        let Some(j) = images::image(indexed, exchange, i) else {
             return *found;
         };
         if found.contains(j) {
@@ -45,28 +41,29 @@ fn grown(
 }
 
 // The rows found so far, grown by one exchange after the other.
-fn grown_by_all(problem: &Subproblem, by_column: &ByColumn, found: &rows::Set) -> rows::Set
-    ensures { let p = problem.now in Grown p.matrix.words.now p.matrix.weights.now p.live.now p.undecided found.now result }
+fn grown_by_all(indexed: &Indexed, found: &rows::Set) -> rows::Set
+    ensures { let p = indexed.now.problem in Grown p.matrix.words.now p.matrix.weights.now p.live.now p.undecided found.now result }
 {
     let mut more = *found;
     for a in 0..VARIABLES {
         for b in 0..VARIABLES {
-            more = grown(problem, by_column, &Exchange::of(a, b), &more);
+            more = grown(indexed, &Exchange::of(a, b), &more);
         }
     }
     more
 }
 
 // The live rows that exchanges take to the row r, and r: the exchanges are tried until they add no row.
-pub fn orbit(problem: &Subproblem, by_column: &ByColumn, r: usize) -> rows::Set
-    requires { (r < row_count problem.now.matrix.words.now) × Member problem.now.live.now r }
-    ensures { let p = problem.now in Orbit p.matrix.words.now p.matrix.weights.now p.live.now p.undecided r result }
+pub fn orbit(indexed: &Indexed, r: usize) -> rows::Set
+    requires { (r < row_count indexed.now.problem.matrix.words.now) × Member indexed.now.problem.live.now r }
+    ensures { let p = indexed.now.problem in Orbit p.matrix.words.now p.matrix.weights.now p.live.now p.undecided r result }
 {
-    let end = problem.matrix.rows();
+    let end = indexed.problem.matrix.rows();
     let mut found = rows::Set::none();
     found.insert(r);
+    // Nothing counts the rounds: the last is the one that adds no row.
     loop {
-        let more = grown_by_all(problem, by_column, &found);
+        let more = grown_by_all(indexed, &found);
         if more.len(end) == found.len(end) {
             return more;
         }

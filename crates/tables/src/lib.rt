@@ -10,7 +10,8 @@ ghost use Rattle.tables.specs.Listing.{primes_refuses};
 
 use cube::Refusal;
 
-// A table of `width` variables: a cell for each code.
+// A table of `width` variables: a cell for each code, 1 where it is wanted, 0 where it is barred, 2 where it is free. Cells are bytes and no enum: C lends
+// bytes, and whole tables are handed on as slices of them.
 #[derive(Clone, Copy)]
 pub struct Table<'a> {
     pub width: usize,
@@ -42,7 +43,8 @@ impl<'a> Table<'a> {
         Ok(Table { width: n, cells })
     }
 
-    // The same for a call that lists cubes of the table into so many lent places: refused, last, for fewer than 3^n places.
+    // The same for a call that lists cubes of the table into so many lent places: refused, last, for fewer than 3^n places. Each such call is this, `?` and its
+    // list, and not one function: that would take the list as a closure, with what it promises, and a call of it would be as long.
     pub fn with_places(n: usize, cells: &'a [u8], places: usize) -> Result<Table<'a>, Refusal>
         ensures refusal { refusal_of result ≡ primes_refuses n cells.now places }
         ensures table { IfOk result (λ t. (t.width ≡ n) × (t.cells.now ≡ cells.now)) }
@@ -55,7 +57,8 @@ impl<'a> Table<'a> {
         Ok(table)
     }
 
-    // The number of its cubes.
+    // The number of its cubes. That lent places suffice for them is asked by each function that lists cubes: a type of a table and places would hold what is
+    // lent to be changed, and every contract would tell of the places through it.
     pub fn cubes(self) -> usize
         ensures { result ≡ 3 ^ self.entry.width }
     {

@@ -11,9 +11,9 @@ use native.Mathlib.Omega.{arith}
 use lib.Dec.{ltb}
 use lib.ListN.{length, length-append}
 use borrow.Author.Tests.{lt-ltb, le-ltb, ltb-false}
-use Rattle.numbers.proofs.Bools.{lt_or_le}
 use Rattle.std.specs.Fmt.{decimal}
 use Rattle.std.proofs.lemmas.Fmt.{AppendsLastDigit, decimal_from_appends, length-decimal-le_succ}
+use Rattle.std.proofs.lemmas.Bool.{cases_lt}
 use Rattle.text.specs.Characters.{digit_character}
 use Rattle.text.specs.Output.{decimal_by, in_decimal}
 use Rattle.text.specs.Theorems.{Decimal}
@@ -62,8 +62,8 @@ appends = record {
 }
 
 -- what the library writes for a number of 64 bits
-pub is-decimal : (x : ℕ) → x < 2 ^ 64 → decimal x ≡ in_decimal x
-is-decimal x l = sym (decimal_from_appends decimal_by appends (suc x) x l (simp add-one at (length-decimal-le_succ x l))) ∙ by_any (suc x) x x (omega arith) (omega arith)
+pub is_decimal : (x : ℕ) → x < 2 ^ 64 → decimal x ≡ in_decimal x
+is_decimal x l = sym (decimal_from_appends decimal_by appends (suc x) x l (simp add-one at (length-decimal-le_succ x l))) ∙ by_any (suc x) x x (omega arith) (omega arith)
 
 pub decimals : (x : ℕ) → Decimal x
 decimals x = record { low = decimal_low x; high = decimal_high x }
@@ -77,4 +77,4 @@ decimal_length (suc k) x l =
       ap length (decimal_high x h),
       length-append (in_decimal (x / 10)) (last x),
       decimal_length k (x / 10) (omega (arith, pow-suc 10 (suc k))),
-    )) (lt_or_le x 10)
+    )) (cases_lt x 10)

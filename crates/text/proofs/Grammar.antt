@@ -9,12 +9,14 @@ use native.Mathlib.Omega.{arith}
 use lib.Dec.{T, eqb, leb, ltb, leb→le}
 use lib.ListN.{length}
 use borrow.Author.Tests.{eqb-true, leb-true, le-leb, le-ltb, ltb-false}
+use Rattle.std.specs.Bool.{passes}
+use Rattle.std.proofs.lemmas.Bool.{or_parts}
 use Rattle.numbers.specs.Below.{some}
 use Rattle.cube.specs.Words.{cell}
 use Rattle.cube.specs.Calls.{bad_cell, Answer, refuses, gives}
-use Rattle.numbers.proofs.Bools.{and_l, and_r, holds}
+use Rattle.numbers.proofs.Bools.{and_l, and_r}
 use Rattle.numbers.proofs.Below.{some_front}
-use Rattle.cube.proofs.Calls.{neither, refuses_gives, same_value}
+use Rattle.cube.proofs.Calls.{refuses_gives, same_value}
 use Rattle.text.specs.Characters.{line_feed, digit_character, character_of}
 use Rattle.text.specs.Input.{text_of, InForm, Table, not_in_form, is_digit, width_of, is_cell, cell_of, is_end, before, read_run, of_width, read}
 use Rattle.text.specs.Theorems.{Grammar}
@@ -34,10 +36,10 @@ module _ (c : ℕ) (cs : List ℕ) where
   meant_more l e = bad_either ∙ ap₂ ◌||◌ (le-ltb 2 c l) e
 
   meant_head : bad_cell (c ∷ cs) ≡ false → c ≤ 2
-  meant_head e = ltb-false 2 c (neither (ltb 2 c) (bad_cell cs) (sym bad_either ∙ e)).0
+  meant_head e = ltb-false 2 c (or_parts (ltb 2 c) (bad_cell cs) (sym bad_either ∙ e)).0
 
   meant_tail : bad_cell (c ∷ cs) ≡ false → bad_cell cs ≡ false
-  meant_tail e = (neither (ltb 2 c) (bad_cell cs) (sym bad_either ∙ e)).1
+  meant_tail e = (or_parts (ltb 2 c) (bad_cell cs) (sym bad_either ∙ e)).1
 
 cell_of_character : (c : ℕ) → c ≤ 2 → (cell_of (character_of c) ≡ c) × (eqb (character_of c) line_feed ≡ false)
 cell_of_character zero l = (refl, refl)
@@ -109,7 +111,7 @@ digit_is : (n : ℕ) → n < 10 → is_digit (digit_character n) ≡ true
 digit_is n l = ap₂ ◌&&◌ (le-leb 48 (48 + n) (omega arith)) (le-leb (48 + n) 57 (omega arith))
 
 is_digit_lem : (d : ℕ) → is_digit d ≡ true → (48 ≤ d) × (d ≤ 57)
-is_digit_lem d e = let h = holds (is_digit d) e in (leb→le 48 d (and_l (leb 48 d) (leb d 57) h), leb→le d 57 (and_r (leb 48 d) (leb d 57) h))
+is_digit_lem d e = let h = passes (is_digit d) e in (leb→le 48 d (and_l (leb 48 d) (leb d 57) h), leb→le d 57 (and_r (leb 48 d) (leb d 57) h))
 
 reads_form : (n : ℕ) (cells : List ℕ) → n < 10 → bad_cell cells ≡ false → read (text_of n cells) ≡ gives (record { width = n; cells = cells })
 unfolding read

@@ -6,12 +6,13 @@ use mathlib.Core.Bool.{Bool, true, false, cond, not}
 use mathlib.Core.List.{List, [], ◌∷◌, ◌++◌}
 use Prim.Native.Nat.{ℕ, ◌^◌, ◌<◌, ◌≤◌}
 use native.Mathlib.Omega.{arith}
-use lib.ListN.{length}
+use lib.ListN.{length, length-append}
 use lib.Seq.{length-take-le, take_all}
 use borrow.Author.Tests.{ne_eqb}
+use Rattle.std.proofs.lemmas.List.{take-append-le}
+use Rattle.std.proofs.lemmas.Bool.{cases_lt}
 use Rattle.cube.specs.Words.{Cover}
 use Rattle.cube.specs.Calls.{widest, bad_width, bad_length, bad_cell, Condition, when, first_of, table_conditions, Answer, refuses, gives}
-use Rattle.numbers.proofs.Bools.{lt_or_le}
 use Rattle.cube.proofs.Calls.{width_to, codes_most, first_holds, accepted}
 use Rattle.text.specs.Input.{Table, read}
 use Rattle.text.specs.Output.{table_text, printed, output_by}
@@ -31,6 +32,14 @@ long_refused n t rest l = go (bad_width n) refl
     go true e = refl
     go false e = by_length e
 
+-- one cell more is kept where fewer are kept than may be, and else none is
+module _ (cells : List ℕ) (x : ℕ) where
+  pub one_kept : length cells < most_cells → cells ++ x ∷ [] ≡ keep (cells ++ x ∷ [])
+  one_kept l = sym (take_all most_cells (cells ++ x ∷ []) (omega (arith, length-append cells (x ∷ []))))
+
+  pub none_kept : length cells ≡ most_cells → cells ≡ keep (cells ++ x ∷ [])
+  none_kept e = sym (take-append-le most_cells cells (x ∷ []) (omega arith) ∙ take_all most_cells cells (omega arith))
+
 -- a call whose further conditions are the rest refuses the cells that are kept exactly as it refuses the whole run; where the table is not refused,
 -- they are the whole run
 pub record Keeping (n : ℕ) (cells : List ℕ) : Type 0 where
@@ -38,7 +47,7 @@ pub record Keeping (n : ℕ) (cells : List ℕ) : Type 0 where
   pub whole : first_of (table_conditions n cells) ≡ 0 → keep cells ≡ cells
 
 pub keeping : (n : ℕ) (cells : List ℕ) → Keeping n cells
-keeping n cells = ⊎_elim long short (lt_or_le most_cells (length cells))
+keeping n cells = ⊎_elim long short (cases_lt most_cells (length cells))
   where
     short : length cells ≤ most_cells → Keeping n cells
     short l =

@@ -10,8 +10,8 @@ use Rattle.cube.specs.Words.{Row, Cover}
 use Rattle.cube.specs.Calls.{widest}
 use Rattle.numbers.proofs.Below.{tabulate-length}
 use Rattle.text.specs.Characters.{bytes, line_feed}
-use Rattle.text.specs.Output.{in_decimal, character_of_variable, row_line, list_lines, totals_line, refused}
-use Rattle.text.specs.Steps.{most_digits, most_refusal}
+use Rattle.text.specs.Output.{in_decimal, character_of_variable, row_line, list_lines, totals_line}
+use Rattle.text.specs.Steps.{most_digits}
 use Rattle.text.proofs.Decimals.{decimal_length}
 
 -- ---- lines
@@ -44,7 +44,6 @@ totals_length rows bits l m =
       digits_few bits m,
     )
 
-pub refused-length : (k : ℕ) → k < 2 ^ 8 → length (refused k) ≤ most_refusal
-refused-length k l =
-    let text : List ℕ = bytes "refused " ++ in_decimal k in
-    omega (arith, length-append text (line_feed ∷ []), length-append (bytes "refused ") (in_decimal k), decimal_length 2 k (omega arith))
+-- three for the number of a refusal
+pub number_length : (k : ℕ) → k < 2 ^ 8 → length (in_decimal k) ≤ 3
+number_length k l = decimal_length 2 k (omega arith)

@@ -12,10 +12,10 @@ use Rattle.text.specs.Characters.{line_feed}
 use Rattle.text.specs.Input.{not_in_form, is_digit, width_of, is_cell, cell_of, is_end, before, read_run, of_width, read}
 use Rattle.text.specs.Steps.{most_cells, keep, kept_of, State, at_start, after_digit, in_run, at_end, wrong, stepped, fed, closed}
 
-pub fed-append : (s : State) (xs ys : List ℕ) → fed s (xs ++ ys) ≡ fed (fed s xs) ys
+pub fed_append : (s : State) (xs ys : List ℕ) → fed s (xs ++ ys) ≡ fed (fed s xs) ys
 unfolding fed
-fed-append s [] ys = refl
-fed-append s (x ∷ xs) ys = fed-append (stepped s x) xs ys
+fed_append s [] ys = refl
+fed_append s (x ∷ xs) ys = fed_append (stepped s x) xs ys
 
 fed_wrong : (xs : List ℕ) → fed wrong xs ≡ wrong
 unfolding fed

@@ -16,7 +16,7 @@ use spelling::MOST_CODES;
 use std::marker::Model;
 
 // One cell more than the widest table has.
-pub const MOST_CELLS: usize = MOST_CODES + 1;
+const MOST_CELLS: usize = MOST_CODES + 1;
 
 // What comes next in a text in form.
 #[derive(Clone, Copy)]
@@ -57,12 +57,11 @@ fn cell_of(byte: u8) -> Option<u8>
 type Cells = ArrayVec<u8, MOST_CELLS>;
 
 // Keeps a cell where there is room for one more.
+#[tactic(auto, using(crate::proofs::Keeping::one_kept, crate::proofs::Keeping::none_kept))]
 fn keep(cells: &mut Cells, cell: u8)
     ensures { cells.new.items ≡ keep (cells.old.items ++ cell ∷ []) }
 {
-    if !cells.is_full() {
-        cells.push(cell);
-    }
+    let _ = cells.try_push(cell);
 }
 
 impl Next {
@@ -143,6 +142,7 @@ impl Reader {
     }
 
     // The bytes of a piece, one after the other.
+    #[tactic(auto, using(crate::proofs::Stepping::fed_append, numbers::proofs::Fronts::take_more), unfolding(crate::specs::Steps::fed))]
     pub fn feed(&mut self, piece: &[u8])
         ensures { self.new ≡ fed self.old piece.now }
     {

@@ -1,22 +1,24 @@
-// The printed lines. Each function writes behind what its text has already.
-ghost use Rattle.std.specs.Prelude.{◌≡◌, ◌∷◌, ◌++◌, ◌+◌, ◌<◌, ◌≤◌, length};
+// The printed lines. Each function writes behind what its text has already. Each pushes its parts, and there is no `Display`: `write!` answers a Result that each
+// contract would have to rule out, and the contracts give the bytes.
+ghost use Rattle.std.specs.Prelude.{◌≡◌, ◌++◌, ◌+◌, ◌<◌, ◌≤◌, eqb, length};
 ghost use Rattle.arrayvec.specs.ArrayString.{array_string_len};
 ghost use Rattle.cube.specs.Words.{digit_of, rows_of};
 ghost use Rattle.cube.specs.Theorems.{bit_of_variable, Variable};
-ghost use Rattle.cube.specs.Calls.{widest, refusal_number};
+ghost use Rattle.cube.specs.Calls.{refusal_number};
 ghost use Rattle.text.specs.Output.{in_decimal, character_of_variable, row_line, list_lines, totals_line, refused, list_text};
-ghost use Rattle.text.specs.Steps.{digit_number, most_refusal, most_variables, Printable};
+ghost use Rattle.text.specs.Steps.{digit_number, most_refusal, Printable};
 
 use arrayvec::ArrayString;
 use cube::{Refusal, Row};
 use itoa::Buffer;
-use lists::Rows;
+use lists::{BITS, Rows};
 use spelling::MOST_CODE_PAIRS;
 
 // The longest output of `rows`: lines of 7 bytes, one for each pair of codes, and the last line with two numbers of 20 digits.
 pub const MOST_OUTPUT: usize = 7 * MOST_CODE_PAIRS + 52;
 
 // A number in decimal.
+#[tactic(auto, using(crate::proofs::Decimals::is_decimal))]
 pub fn number<const N: usize>(x: usize, out: &mut ArrayString<N>)
     requires { array_string_len out.old + length (in_decimal x) ≤ N }
     ensures { out.new.bytes ≡ out.old.bytes ++ in_decimal x }
@@ -24,28 +26,29 @@ pub fn number<const N: usize>(x: usize, out: &mut ArrayString<N>)
     out.push_str(Buffer::new().format(x));
 }
 
-// The bit of variable xk in a value or a care.
-fn bit(n: usize, k: usize, byte: u8) -> usize
-    requires { (n ≤ most_variables) × Variable n k }
-    ensures { result ≡ bit_of_variable n k byte }
+// The bit of variable xk in a value or a care. Behind its own bits nothing of a byte is left.
+#[tactic(auto, using(crate::proofs::Bytes::byte_bit))]
+fn bit(n: usize, k: usize, byte: u8) -> bool
+    requires { Variable n k }
+    ensures { result ≡ eqb (bit_of_variable n k byte) 1 }
 {
-    usize::from(byte) >> (n - k) & 1
+    usize::from(byte) >> (n - k).min(BITS) & 1 == 1
 }
 
 // The bit of variable xk that a row tests, if it tests one.
 pub fn tested(n: usize, k: usize, row: Row) -> Option<bool>
-    requires { (n ≤ most_variables) × Variable n k }
+    requires { Variable n k }
     ensures { digit_number result ≡ digit_of (bit_of_variable n k row.value) (bit_of_variable n k row.care) }
 {
-    if bit(n, k, row.care) == 0 {
+    if !bit(n, k, row.care) {
         return None;
     }
-    Some(bit(n, k, row.value) == 1)
+    Some(bit(n, k, row.value))
 }
 
 // The character of variable xk in the line of a row.
 fn character(n: usize, k: usize, row: Row) -> char
-    requires { (n ≤ widest) × Variable n k }
+    requires { Variable n k }
     ensures value { result ≡ character_of_variable n row k }
     ensures ascii { result < 128 }
 {
@@ -58,26 +61,22 @@ fn character(n: usize, k: usize, row: Row) -> char
 
 // The line of a row, x1 first.
 fn line<const N: usize>(n: usize, row: Row, out: &mut ArrayString<N>)
-    requires { (n ≤ widest) × (array_string_len out.old + (n + 1) ≤ N) }
+    requires { array_string_len out.old + (n + 1) ≤ N }
     ensures { out.new.bytes ≡ out.old.bytes ++ row_line n row }
 {
-    for i in 0..n {
-        out.push(character(n, i + 1, row));
+    for k in 1..=n {
+        out.push(character(n, k, row));
     }
     out.push('\n');
 }
 
 // The lines of a list.
+#[tactic(auto, unfolding(crate::specs::Output::list_lines))]
 fn lines<const N: usize>(n: usize, rows: Rows, out: &mut ArrayString<N>)
-    requires width { n ≤ widest }
-    requires room { array_string_len out.old + length (list_lines n (rows_of rows.values.now rows.cares.now)) ≤ N }
+    requires { array_string_len out.old + length (list_lines n (rows_of rows.values.now rows.cares.now)) ≤ N }
     ensures { out.new.bytes ≡ out.old.bytes ++ list_lines n (rows_of rows.entry.values.now rows.entry.cares.now) }
 {
-    for (value, care) in rows.values.iter().zip(rows.cares) {
-        let row = Row {
-            value: *value,
-            care: *care,
-        };
+    for row in rows {
         line(n, row, out);
     }
 }
@@ -95,6 +94,7 @@ fn totals<const N: usize>(rows: usize, bits: usize, out: &mut ArrayString<N>)
 }
 
 // What is printed for a list: its lines and its two counts.
+#[tactic(auto, using(crate::proofs::Lines::lines_length, crate::proofs::Lines::totals_length, cube::proofs::Lists::rows_length))]
 pub fn list(n: usize, rows: Rows, bits: usize) -> ArrayString<MOST_OUTPUT>
     requires { Printable n (length rows.values.now) }
     ensures { result.bytes ≡ list_text n (rows_of rows.entry.values.now rows.entry.cares.now)
@@ -102,11 +102,12 @@ pub fn list(n: usize, rows: Rows, bits: usize) -> ArrayString<MOST_OUTPUT>
 {
     let mut out = ArrayString::new();
     lines(n, rows, &mut out);
-    totals(rows.values.len(), bits, &mut out);
+    totals(rows.len(), bits, &mut out);
     out
 }
 
 // What is printed for a refusal.
+#[tactic(auto, using(crate::proofs::Lines::number_length))]
 pub fn refusal<const N: usize>(refusal: Refusal) -> ArrayString<N>
     requires { most_refusal ≤ N }
     ensures { result.bytes ≡ refused (refusal_number refusal) }

@@ -4,7 +4,7 @@ ghost use Rattle.cube.specs.Calls.{refusal_number};
 ghost use Rattle.text.specs.Output.{refused, ProgramOutput};
 ghost use Rattle.text.specs.Steps.{PrintsState};
 
-use crate::input::Reader;
+use crate::input::{Reader, Text};
 use crate::output;
 use arrayvec::ArrayString;
 use cube::Refusal;
@@ -22,10 +22,10 @@ pub trait Program<const N: usize> {
     // The lists that it may show for a table.
     ghost May: { ℕ → List ℕ → Cover → Type 0 };
 
-    // What is shown for a table, or why it is refused.
-    fn show(n: usize, cells: &[u8]) -> Result<ArrayString<N>, Refusal>
-        ensures refusal { refusal_of result ≡ first_of (table_conditions n cells.now) }
-        ensures text { IfOk result (λ text. ShowsTable shown May n cells.now text.bytes) };
+    // What is shown for the table of a text, or why it is refused.
+    fn show(text: Text) -> Result<ArrayString<N>, Refusal>
+        ensures refusal { refusal_of result ≡ first_of (table_conditions text.entry.width text.entry.cells.now) }
+        ensures text { IfOk result (λ out. ShowsTable shown May text.entry.width text.entry.cells.now out.bytes) };
 
     ghost room: { most_refusal ≤ N };
 }
@@ -34,8 +34,7 @@ pub trait Program<const N: usize> {
 fn answer<P: Program<N>, const N: usize>(reader: &Reader) -> Result<ArrayString<N>, Refusal>
     ensures { MatchResult result (λ text. PrintsState P.shown P.May reader.now text.bytes) (λ e. PrintsState P.shown P.May reader.now (refused (refusal_number e))) }
 {
-    let text = reader.text()?;
-    P::show(text.width, text.cells)
+    P::show(reader.text()?)
 }
 
 // What is printed at the end of the input, for what was read.
@@ -49,6 +48,7 @@ pub fn reply<P: Program<N>, const N: usize>(reader: &Reader) -> ArrayString<N>
 }
 
 // What is printed for a whole input.
+#[tactic(auto, using(crate::proofs::Replies::input_said))]
 pub fn whole<P: Program<N>, const N: usize>(input: &[u8]) -> ArrayString<N>
     ensures { ProgramOutput P.shown P.May input.now result.bytes }
 {

@@ -4,4 +4,4 @@ use Rattle.cube.specs.Words.{cube_literals}
 use Rattle.cells.proofs.+write_codes.Given as goal
 
 abbrev pub decreases-write_codes : goal.decreases-write_codes
-decreases-write_codes l = l.n - cube_literals l.n l.q
+decreases-write_codes l = l.cube.width - cube_literals l.cube.width l.cube.number

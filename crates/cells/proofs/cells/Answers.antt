@@ -6,8 +6,10 @@ use Rattle.cells.proofs.cells.Goals as goal
 
 pub write_codes-requires : goal.write_codes-requires
 write_codes-requires c =
-    let good = c.in_ok-check_cube.ensures.cube in
-    record { width = good.0; cube = good.1; room = omega (arith, codes_length c.args.n c.args.q) }
+    let given = c.in_ok-cube.ensures.cube in
+    rw (given.0, given.1) (omega (arith, codes_length c.args.n c.args.q))
 
 pub returns : goal.returns
-returns c = listed_done (grind (arith, refusals)) c.write_codes.ensures (omega (arith, codes_length c.args.n c.args.q))
+returns c =
+    let given = c.in_ok-cube.ensures.cube in
+    listed_done (grind (arith, refusals)) (rw (given.0, given.1) at c.write_codes.ensures) (omega (arith, codes_length c.args.n c.args.q))

@@ -7,5 +7,7 @@ use Rattle.cells.proofs.first_untested.Goals as goal
 
 pub returns : goal.returns
 returns c =
-    last_from_end c.args.n _ _ _ _ (λ k. digit k c.args.q ≡ 2) (λ k. digit k c.args.q ≡ 2 → ⊥) c.rev.ensures.source c.find.ensures.ran
+    let n = c.args.cube.width in
+    let q = c.args.cube.number in
+    last_from_end n _ _ _ _ (λ k. digit k q ≡ 2) (λ k. digit k q ≡ 2 → ⊥) c.rev.ensures.source c.find.ensures.ran
     (λ x q k. search (rules, tests)) (λ x q k. search (rules, tests))

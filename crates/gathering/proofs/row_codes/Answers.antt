@@ -3,15 +3,15 @@ use mathlib.Core.Path.{◌≡◌, subst}
 use mathlib.Core.Bool.{true}
 use Prim.Native.Nat.{ℕ}
 use native.Mathlib.Omega.{arith}
+use Rattle.std.specs.Bool.{passes}
 use Rattle.cube.specs.Words.{Row, formed}
-use Rattle.numbers.proofs.Bools.{holds}
 use Rattle.cube.proofs.Calls.{codes_most}
 use Rattle.cube.proofs.Rows.{Formed, formed_means}
 use Rattle.gathering.proofs.RowCodes.{Agreeing, row_value_lt, row_more, row_exactly}
 use Rattle.gathering.proofs.row_codes.Goals as goal
 
 formed_at : (n : ℕ) (row : Row) → formed n row ≡ true → Formed n row.value row.care
-formed_at n row e = formed_means n row (holds _ e)
+formed_at n row e = formed_means n row (passes _ e)
 
 pub only-matched-requires : goal.only-matched-requires
 only-matched-requires c =

@@ -1,12 +1,9 @@
 -- `keep_out::keep_out` meets its contract: it refuses as Plan does, or is Plan for the exchanged table. Assumes nothing.
-use Rattle.std.proofs.Common.{rules, ap, ◌∙◌, arith}
+use Rattle.std.proofs.Common.{ap, ◌∙◌, arith}
 use Rattle.cube.proofs.Calls.{codes_most}
 use Rattle.keep_out.specs.Theorems.{exchanged}
-use Rattle.keep_out.proofs.Theorems.{keep_out_refused, keep_out_done}
+use Rattle.keep_out.proofs.Theorems.{keep_out_done}
 use Rattle.keep_out.proofs.keep_out.Goals as goal
-
-pub returns-in_err-accepted : goal.returns-in_err-accepted
-returns-in_err-accepted c = search (rules, keep_out_refused)
 
 pub exchange-cells-requires : goal.exchange-cells-requires
 exchange-cells-requires c = let table = c.in_ok-accepted.accepted in omega (arith, table.sized, codes_most table.width table.narrow)

@@ -6,8 +6,7 @@ use native.Mathlib.Omega.{arith}
 use lib.ListN.{length}
 use lib.Seq.{sets}
 use Rattle.lists.specs.declared.Rows.{Rows}
-use Rattle.cube.specs.declared.Refusal.TheVariants.{ShortOutput}
-use Rattle.cube.proofs.Calls.{refusals, listed_refused, listed_done}
+use Rattle.cube.proofs.Calls.{refusals, listed_done}
 use Rattle.cube.proofs.Lists.{rows_length}
 use Rattle.listfile.specs.File.{one_byte_count, file_of}
 use Rattle.listfile.proofs.Theorems.{file_length_lem}
@@ -16,11 +15,6 @@ use Rattle.listfile.proofs.write.Goals as goal
 -- two arrays of a list have one length
 equal : (rows : Rows) (vs ws : List ℕ) → (rows.values.now ≡ vs) × (rows.cares.now ≡ ws) → length vs ≡ length ws
 equal rows vs ws e = sym (ap length e.0) ∙ rows.paired ∙ ap length e.1
-
-pub returns-then-out-length : goal.returns-then-out-length
-returns-then-out-length c =
-    let long = rows_length c.args.values.now c.args.cares.now (equal c.in_ok-rows.rows _ _ c.in_ok-rows.ensures.rows) in
-    listed_refused ShortOutput (grind (arith, refusals))
 
 pub returns : goal.returns
 returns c =

@@ -1,11 +1,8 @@
 -- `plan::plan` meets its contract: it refuses, or writes the chosen list. Assumes nothing.
-use Rattle.std.proofs.Common.{rules, ℕ, List, subst₂, arith}
+use Rattle.std.proofs.Common.{ℕ, List, subst₂, arith}
 use Rattle.plan.specs.Steps.{Chosen}
-use Rattle.plan.proofs.Endings.{cubes_most, plan_refused, plan_done}
+use Rattle.plan.proofs.Endings.{cubes_most, plan_done}
 use Rattle.plan.proofs.plan.Goals as goal
-
-pub returns-in_err-table : goal.returns-in_err-table
-returns-in_err-table c = search (rules, plan_refused)
 
 pub write_rows-requires : goal.write_rows-requires
 write_rows-requires c =

@@ -1,6 +1,6 @@
 -- `plan::shortest` meets its contract: the picked rows of the chart are those of a shortest list. Assumes nothing.
 use Rattle.std.proofs.Common.{◌∙◌}
-use Rattle.plan.proofs.Choice.{chart_covers, room, weighs, chosen}
+use Rattle.plan.proofs.Choice.{chart_covers, picked_rows}
 use Rattle.plan.proofs.shortest.Goals as goal
 
 pub lightest-found-requires-clause-coverable : goal.lightest-found-requires-clause-coverable
@@ -9,17 +9,17 @@ lightest-found-requires-clause-coverable c =
 
 pub picked_cubes-cubes-requires-clause-room : goal.picked_cubes-cubes-requires-clause-room
 picked_cubes-cubes-requires-clause-room c =
-    room c.args.table.width c.args.table.cells.now c.args.table.narrow _ (c.as_slice-rows.ensures.value ∙ c.build-chart.ensures) _ c.wanted.ensures
-    c.lightest-found.result c.lightest-found.ensures
+    (picked_rows c.args.table.width c.args.table.cells.now c.args.table.narrow _ (c.as_slice-rows.ensures.value ∙ c.build-chart.ensures) _ c.wanted.ensures
+    c.lightest-found.result c.lightest-found.ensures).room
 
 pub overflow_sub-bits : goal.overflow_sub-bits
 overflow_sub-bits c =
     rw (c.len.ensures.value, c.picked_cubes-cubes.ensures)
-    (weighs c.args.table.width c.args.table.cells.now c.args.table.narrow _ (c.as_slice-rows.ensures.value ∙ c.build-chart.ensures) _ c.wanted.ensures
-    c.lightest-found.result c.lightest-found.ensures)
+    (picked_rows c.args.table.width c.args.table.cells.now c.args.table.narrow _ (c.as_slice-rows.ensures.value ∙ c.build-chart.ensures) _ c.wanted.ensures
+    c.lightest-found.result c.lightest-found.ensures).weighs
 
 pub returns : goal.returns
 returns c =
     rw (c.len.ensures.value, c.picked_cubes-cubes.ensures)
-    (chosen c.args.table.width c.args.table.cells.now c.args.table.narrow _ (c.as_slice-rows.ensures.value ∙ c.build-chart.ensures) _ c.wanted.ensures
-    c.lightest-found.result c.lightest-found.ensures)
+    (picked_rows c.args.table.width c.args.table.cells.now c.args.table.narrow _ (c.as_slice-rows.ensures.value ∙ c.build-chart.ensures) _ c.wanted.ensures
+    c.lightest-found.result c.lightest-found.ensures).chosen

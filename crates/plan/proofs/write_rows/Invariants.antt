@@ -5,6 +5,6 @@ use Rattle.plan.proofs.write_rows.Given as goal
 
 abbrev pub invariant-loop-i : goal.invariant-loop-i
 invariant-loop-i l = record {
-  values : l.values ≡ map (value_of l.n) (take l.i l.cubes) ++ drop l.i l.initial.values;
-  cares : l.cares ≡ map (care_of l.n) (take l.i l.cubes) ++ drop l.i l.initial.cares;
+  values : l.values ≡ map (value_of l.width) (take l.i l.cubes) ++ drop l.i l.initial.values;
+  cares : l.cares ≡ map (care_of l.width) (take l.i l.cubes) ++ drop l.i l.initial.cares;
 }

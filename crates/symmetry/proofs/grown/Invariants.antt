@@ -5,4 +5,4 @@ use Rattle.symmetry.proofs.grown.Given as goal
 
 abbrev pub invariant-loop-i : goal.invariant-loop-i
 invariant-loop-i l =
-    Passed l.problem.matrix.words.now l.problem.matrix.weights.now l.problem.live.now l.problem.undecided l.exchange l.found l.more (passed l.yielded)
+    Passed l.indexed.problem.matrix.words.now l.indexed.problem.matrix.weights.now l.indexed.problem.live.now l.indexed.problem.undecided l.exchange l.found l.more (passed l.yielded)

@@ -3,7 +3,7 @@ use Rattle.symmetry.specs.Steps.{Grown}
 use Rattle.symmetry.proofs.grown_by_all.Given as goal
 
 abbrev pub invariant-loop-a : goal.invariant-loop-a
-invariant-loop-a l = Grown l.problem.matrix.words.now l.problem.matrix.weights.now l.problem.live.now l.problem.undecided l.found l.more
+invariant-loop-a l = Grown l.indexed.problem.matrix.words.now l.indexed.problem.matrix.weights.now l.indexed.problem.live.now l.indexed.problem.undecided l.found l.more
 
 abbrev pub invariant-loop-b : goal.invariant-loop-b
-invariant-loop-b l = Grown l.problem.matrix.words.now l.problem.matrix.weights.now l.problem.live.now l.problem.undecided l.found l.more
+invariant-loop-b l = Grown l.indexed.problem.matrix.words.now l.indexed.problem.matrix.weights.now l.indexed.problem.live.now l.indexed.problem.undecided l.found l.more

@@ -6,7 +6,7 @@ use Rattle.symmetry.specs.Symmetry.{Orbit}
 use Rattle.symmetry.proofs.orbit.Given as goal
 
 abbrev pub invariant-loop-more : goal.invariant-loop-more
-invariant-loop-more l = Orbit l.problem.matrix.words.now l.problem.matrix.weights.now l.problem.live.now l.problem.undecided l.r l.found
+invariant-loop-more l = Orbit l.indexed.problem.matrix.words.now l.indexed.problem.matrix.weights.now l.indexed.problem.live.now l.indexed.problem.undecided l.r l.found
 
 abbrev pub decreases-loop-more : goal.decreases-loop-more
 decreases-loop-more l = l.end - set_size l.end (member l.found)

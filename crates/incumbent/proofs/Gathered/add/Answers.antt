@@ -10,6 +10,6 @@ overflow_add-self c = let b = counted_below _ _ _ c.requires.counted in omega (a
 
 pub returns-clause-counted : goal.returns-clause-counted
 returns-clause-counted c =
-    let more : (x : ℕ) → has c.bitor-self.result x ≡ (has c.args.self.now.columns x || has (covered c.args.matrix.words.now c.args.i) x) =
-    rw c.columns_of.ensures at c.bitor-self.ensures in
+    let more : (x : ℕ) → has c.bitor_assign.new.self x ≡ (has c.args.self.now.columns x || has (covered c.args.matrix.words.now c.args.i) x) =
+    rw c.columns_of.ensures at c.bitor_assign.ensures.after in
     counted_more _ _ _ _ _ _ (omega (arith, c.args.matrix.sizes.few)) c.requires.new c.weight.ensures.is c.weight.ensures.small c.insert.ensures more refl c.requires.counted

@@ -1,10 +1,19 @@
--- `neighbours::vicinities::matches_barred` meets its contract: what `any` answers over the codes. Assumes nothing.
-use Rattle.std.proofs.Common.{◌∙◌, tests, rules, eqb, ◌&&◌, bit_and}
+-- `neighbours::vicinities::matches_barred` meets its contract: what `any` answers over the codes, each with its cell. Assumes nothing.
+use Rattle.std.proofs.Common.{◌≡◌, ◌∙◌, ap, tests, rules, ℕ, Bool, List, length, eqb, ◌&&◌, bit_and, get_or, zero-add}
+use Rattle.std.specs.List.{list_any, enumerate_from}
+use Rattle.std.proofs.lemmas.List.FromFn.{length-enumerate_from, get_or-enumerate_from}
 use Rattle.std.proofs.lemmas.Iterator.{YieldsList-from_slice}
 use Rattle.std.proofs.lemmas.Iterator.Consumers.{YieldsList-from_enumerate}
 use Rattle.std.proofs.lemmas.Iterator.Search.{any_from_yields_List}
-use Rattle.neighbours.proofs.Scanning.{some_cell}
+use Rattle.numbers.specs.Below.{some}
+use Rattle.numbers.proofs.Below.{any_is_some}
 use Rattle.neighbours.proofs.vicinities.matches_barred.Goals as goal
+
+-- some code with its cell passes
+some_cell : (f : ℕ × ℕ → Bool) (t : List ℕ) → list_any f (enumerate_from 0 t) ≡ some (length t) (λ x. f (x, get_or t x 0))
+some_cell f t =
+    any_is_some f _ (0, 0) (enumerate_from 0 t) (length-enumerate_from 0 t)
+    (λ x l. ap f (get_or-enumerate_from 0 t x (0, 0) l ∙ ap (λ (k : ℕ). (k, get_or t x 0)) (zero-add x)))
 
 pub returns : goal.returns
 returns c =

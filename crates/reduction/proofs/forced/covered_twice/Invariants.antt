@@ -8,5 +8,5 @@ use Rattle.reduction.proofs.forced.covered_twice.Given as goal
 
 abbrev pub invariant-loop-i : goal.invariant-loop-i
 invariant-loop-i l =
-    ((i : ℕ) → i < passed l.yielded → Member l.live i → (c : ℕ) → CoversColumn l.matrix.words.now i c → In l.coverage.once c)
-    × ((i j : ℕ) → i < passed l.yielded → j < i → Member l.live i → Member l.live j → (c : ℕ) → CoversColumn l.matrix.words.now i c → CoversColumn l.matrix.words.now j c → In l.coverage.twice c)
+    ((i : ℕ) → i < passed l.yielded → Member l.problem.live.now i → (c : ℕ) → CoversColumn l.problem.matrix.words.now i c → In l.coverage.once c)
+    × ((i j : ℕ) → i < passed l.yielded → j < i → Member l.problem.live.now i → Member l.problem.live.now j → (c : ℕ) → CoversColumn l.problem.matrix.words.now i c → CoversColumn l.problem.matrix.words.now j c → In l.coverage.twice c)

@@ -3,4 +3,6 @@ use Rattle.reduction.specs.Reduction.{Keeps}
 use Rattle.reduction.proofs.row_dominance.drop_rows.Given as goal
 
 abbrev pub invariant-loop-i : goal.invariant-loop-i
-invariant-loop-i l = Keeps l.matrix.words.now l.matrix.weights.now l.fn.live l.undecided l.live l.undecided
+invariant-loop-i l =
+    let p = l.problem in
+    Keeps p.matrix.words.now p.matrix.weights.now p.live.now p.undecided l.live p.undecided

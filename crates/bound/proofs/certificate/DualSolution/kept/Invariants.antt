@@ -3,4 +3,4 @@ use Rattle.bound.specs.Bound.{Kept}
 use Rattle.bound.proofs.certificate.DualSolution.kept.Given as goal
 
 abbrev pub invariant-loop-i : goal.invariant-loop-i
-invariant-loop-i l = Kept l.self.problem.matrix.words.now l.self.problem.matrix.weights.now l.self.problem.live.now l.self.problem.undecided l.self.limit l.kept
+invariant-loop-i l = Kept l.self.offer.problem.matrix.words.now l.self.offer.problem.matrix.weights.now l.self.offer.problem.live.now l.self.offer.problem.undecided l.self.limit l.kept

@@ -3,9 +3,8 @@ use mathlib.Core.Path.{refl, sym, ap, ◌∙◌}
 use mathlib.Core.List.{List, ◌∷◌}
 use Prim.Native.Nat.{ℕ, ◌+◌}
 use native.Mathlib.Omega.{arith}
-use Rattle.numbers.proofs.Flags.{clash}
 use Rattle.numbers.proofs.Loops.{progress}
-use Rattle.matrix.specs.Sets.{word_bits, has_bit}
+use Rattle.matrix.specs.Sets.{word_bits}
 use Rattle.matrix.specs.Walks.{left_behind}
 use Rattle.matrix.proofs.Members.{left_none, left_end, left_next, left_before}
 use Rattle.matrix.proofs.Sets.{word_is, row_taken, none_left}
@@ -32,13 +31,6 @@ loop-word-preserved c =
           ∙ ap (λ (words : List ℕ). left_behind words (s.base + word_bits) j) (sym c.in_ok-word.ensures.cases.0) ∙ next j
           ∙ word_is s _ c.from.ensures j ∙ c.loop-word.invariant.1 j,
     )
-
-pub returns-in_err-b-clause-steps : goal.returns-in_err-b-clause-steps
-returns-in_err-b-clause-steps c =
-    let b = c.loop-word-test.ensures.some refl in
-    let has = ap (λ (w : ℕ). has_bit w b.0) (c.from-word.ensures ∙ sym c.from.ensures) ∙ b.1 in
-    let e = c.in_err-b.ensures in
-    clash has (e.first.before b.0 (omega arith) (e.within b.0 has))
 
 pub returns-then-b-saturating_sub-clause-steps : goal.returns-then-b-saturating_sub-clause-steps
 returns-then-b-saturating_sub-clause-steps c =

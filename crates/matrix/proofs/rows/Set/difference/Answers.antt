@@ -1,15 +1,7 @@
--- `matrix::rows::Set::difference` meets its contract. The invariant: the words before k are joined, and the others are still those of the first set. Assumes nothing.
-use mathlib.Core.Path.{refl, ap, ◌∙◌}
-use mathlib.Core.List.{List}
-use Prim.Native.Nat.{ℕ}
-use native.Mathlib.Omega.{arith}
-use lib.ListN.{length}
-use Rattle.matrix.specs.Sets.{member}
-use Rattle.matrix.proofs.Members.{joined_all, lacking}
+-- `matrix::rows::Set::difference` meets its contract: each word is joined from two. Assumes nothing.
+use Rattle.std.proofs.Common.{refl, rules}
+use Rattle.matrix.proofs.Members.{joined, lacking}
 use Rattle.matrix.proofs.rows.Set.difference.Goals as goal
 
 pub returns : goal.returns
-returns c j =
-    joined_all lacking c.args.self.now c.other.inside.words refl (omega (arith, c.set.invariant, ap length c.set.view_is)) c.other.invariant _ _
-    c.loop-k.invariant c.loop-k-test.false j
-    ∙ ap (λ (b : List ℕ). lacking (member c.args.self.now j) (member b j)) c.other.view_is
+returns c = joined lacking c.args.self.now c.args.other.now refl _ _ _ c.from_fn.ensures.items (λ k w q h. search rules)

@@ -4,4 +4,4 @@ use Rattle.arrayvec.specs.ArrayVec.{array_vec_len}
 use Rattle.pricing.proofs.simplex.Tableau.leaving.Given as goal
 
 abbrev pub invariant-loop-p : goal.invariant-loop-p
-invariant-loop-p l = IfSome l.best (λ p. p < array_vec_len l.self.rows)
+invariant-loop-p l = IfSome l.best (λ found. found.0 < array_vec_len l.self.rows)
