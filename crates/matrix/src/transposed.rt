@@ -1,5 +1,5 @@
-// The matrix by columns: the live rows that cover each undecided column. It is a hint that makes loops shorter. Nothing is promised of it, and whoever
-// uses it checks what it finds.
+// The matrix by columns: the live rows that cover each undecided column. It is a hint that makes loops shorter. Nothing is promised of which rows it
+// has, and whoever uses it checks what it finds.
 ghost use Rattle.std.specs.Prelude.{◌≡◌, ◌<◌};
 ghost use Rattle.matrix.specs.Sets.{column_limit};
 ghost use Rattle.matrix.specs.Matrix.{row_count};
