@@ -7,7 +7,7 @@ use Rattle.cube.specs.Words.{Row, digit_of, rows_of}
 use Rattle.cube.specs.Theorems.{bit_of_variable}
 use Rattle.text.specs.Characters.{bytes}
 use Rattle.text.specs.Steps.{digit_number}
-use Rattle.product.specs.Product.{Sum, literal_text, joined_text, sum_text, sums_text, product_of, excluding_text, literals_of_digit, literals_of_variable, literals_from}
+use Rattle.product.specs.Product.{Sum, Product, literal_text, joined_text, sum_text, sums_text, product_text, product_of, excluding_text, literals_of_digit, literals_of_variable, literals_from}
 use Rattle.product.specs.Steps.{literal_of, rest_text}
 
 -- ---- the literals of a row
@@ -77,6 +77,10 @@ module _ (n : ℕ) (r : Row) (k : ℕ) (l : k ≤ n) (t : Option Bool)
       go false = refl
 
 -- ---- the text of a list
+
+pub product_text_lem : (p : Product) → 0 < length p → product_text p ≡ sums_text p
+product_text_lem [] l = absurd (omega arith)
+product_text_lem (s ∷ ss) l = refl
 
 module _ (n : ℕ) where
   pub no_row : (vs ws : List ℕ) → length vs ≡ 0 → excluding_text n (rows_of vs ws) ≡ bytes "1"

@@ -3,13 +3,16 @@
 //     reply::whole(b"2\n0111\n")     // 1-, -1, rows 2 bits 2
 #![tactic(auto)]
 
+ghost use Rattle.plan.specs.Theorems.{MayWrite};
+ghost use Rattle.text.specs.Output.{rows_text};
+ghost use Rattle.text.specs.Steps.{PrintsState};
 ghost use Rattle.reply.specs.Reply.{RowsFor};
 
 use arrayvec::ArrayString;
 use cube::Refusal;
 use lists::Rows;
 use spelling::MOST_CODE_PAIRS;
-use text::input::Text;
+use text::input::{Reader, Text};
 use text::output::{self, MOST_OUTPUT};
 use text::program::{self, Program};
 
@@ -39,6 +42,13 @@ impl Program<MOST_OUTPUT> for RowsReply {
         };
         Ok(output::list(text.width, rows, totals.bits))
     }
+}
+
+// What is printed at the end of the input, for what was read.
+pub fn reply(reader: &Reader) -> ArrayString<MOST_OUTPUT>
+    ensures { PrintsState rows_text MayWrite reader.now result.bytes }
+{
+    program::reply::<RowsReply, MOST_OUTPUT>(reader)
 }
 
 // What is printed for a whole input. Not one function with that of `sums_reply`: each is the statement of its program, by `RowsFor` and by `SumsFor`.

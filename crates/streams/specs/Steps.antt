@@ -1,8 +1,8 @@
 -- What the steps of a program promise: one read, and all reads. No promise of a program cites it. Assumes nothing.
-use Rattle.std.specs.Prelude.{◌≡◌, Bool, true, false, List, ℕ, zero, suc, is_some, Result, Ok, Err, take}
+use Rattle.std.specs.Prelude.{◌≡◌, ◌≤◌, Bool, true, false, List, ℕ, zero, suc, is_some, Result, Ok, Err, take}
 use Rattle.std.specs.ControlFlow.{break_value}
 use Rattle.std.specs.declared.ops.ControlFlow.{ControlFlow}
-use Rattle.text.specs.Steps.{State, at_start, wrong, fed}
+use Rattle.text.specs.Steps.{most_cells, State, at_start, wrong, fed, cells_kept}
 
 -- A read answers how many bytes it put at the start of the piece: none at the end of the input, and an error where it fails.
 abbrev pub ends_input : {E : Type 0} → Result ℕ E → Bool
@@ -20,7 +20,8 @@ pub record Turned {E : Type 0} (old : State) (got : Result ℕ E) (piece : List 
   pub state : new ≡ after_read old got piece
   pub last : is_some (break_value turn) ≡ ends_input got
 
--- the state after some input
+-- the state after some input, in which no more cells are kept than may be
 pub record ReadAll (state : State) : Type 0 where
   pub input : List ℕ
   pub is_state : state ≡ fed at_start input
+  pub few : cells_kept state ≤ most_cells

@@ -63,6 +63,13 @@ pub fn answer<P: Program<N>, R: Read, const N: usize>(input: &mut R) -> ArrayStr
     program::reply::<P, N>(&read_all(input))
 }
 
+// Hands a text to the output. Where a write fails, writes the complaint to the other.
+pub fn hand_over<O: Write, E: Write>(output: &mut O, other: &mut E, text: &[u8], complaint: &[u8]) {
+    if output.write_all(text).is_err() {
+        let _ = other.write_all(complaint);
+    }
+}
+
 // Hands the whole output of a program to the first writer, standard output; nothing else is handed there. Where a write fails, says so on the other, standard
 // error.
 pub fn send<P: Program<N>, O: Write, E: Write, const N: usize>(
@@ -73,7 +80,5 @@ pub fn send<P: Program<N>, O: Write, E: Write, const N: usize>(
 )
     requires { WholeOutput (ProgramOutput P.shown P.May) text.now }
 {
-    if output.write_all(text).is_err() {
-        let _ = other.write_all(complaint);
-    }
+    hand_over(output, other, text, complaint);
 }

@@ -3,6 +3,9 @@
 //     sums_reply::whole(b"2\n0111\n")     // (x1+x2)
 #![tactic(auto)]
 
+ghost use Rattle.keep_out.specs.KeepOut.{MayKeepOut};
+ghost use Rattle.text.specs.Steps.{PrintsState};
+ghost use Rattle.product.specs.Product.{excluding_line};
 ghost use Rattle.sums_reply.specs.Sums.{SumsFor};
 
 use arrayvec::ArrayString;
@@ -10,7 +13,7 @@ use cube::Refusal;
 use lists::Rows;
 use product::MOST_LINE;
 use spelling::MOST_CODE_PAIRS;
-use text::input::Text;
+use text::input::{Reader, Text};
 use text::program::{self, Program};
 
 // The program.
@@ -38,6 +41,13 @@ impl Program<MOST_LINE> for SumsReply {
         };
         Ok(product::line(text.width, rows))
     }
+}
+
+// What is printed at the end of the input, for what was read.
+pub fn reply(reader: &Reader) -> ArrayString<MOST_LINE>
+    ensures { PrintsState excluding_line MayKeepOut reader.now result.bytes }
+{
+    program::reply::<SumsReply, MOST_LINE>(reader)
 }
 
 // What is printed for a whole input. Why not one function with that of `reply`: see there.

@@ -6,7 +6,8 @@ use mathlib.Core.Bool.{Bool, true, false, cond, not}
 use mathlib.Core.List.{List, [], ◌∷◌, ◌++◌}
 use Prim.Native.Nat.{ℕ, ◌^◌, ◌<◌, ◌≤◌}
 use native.Mathlib.Omega.{arith}
-use lib.ListN.{length, length-append}
+use lib.Dec.{eqb}
+use lib.ListN.{length, length-append, length-take}
 use lib.Seq.{length-take-le, take_all}
 use borrow.Author.Tests.{ne_eqb}
 use Rattle.std.proofs.lemmas.List.{take-append-le}
@@ -14,9 +15,10 @@ use Rattle.std.proofs.lemmas.Bool.{cases_lt}
 use Rattle.cube.specs.Words.{Cover}
 use Rattle.cube.specs.Calls.{widest, bad_width, bad_length, bad_cell, Condition, when, first_of, table_conditions, Answer, refuses, gives}
 use Rattle.cube.proofs.Calls.{width_to, codes_most, first_holds, accepted}
-use Rattle.text.specs.Input.{Table, read}
+use Rattle.text.specs.Characters.{line_feed}
+use Rattle.text.specs.Input.{Table, is_digit, width_of, is_cell, cell_of, read}
 use Rattle.text.specs.Output.{table_text, printed, output_by}
-use Rattle.text.specs.Steps.{most_cells, keep, kept_of, at_start, fed, closed}
+use Rattle.text.specs.Steps.{most_cells, keep, kept_of, State, at_start, after_digit, in_run, at_end, wrong, stepped, fed, closed, cells_kept}
 use Rattle.text.proofs.Stepping.{stepping}
 
 -- a table with more cells than the widest has is refused by its width, or else by its length
@@ -39,6 +41,33 @@ module _ (cells : List ℕ) (x : ℕ) where
 
   pub none_kept : length cells ≡ most_cells → cells ≡ keep (cells ++ x ∷ [])
   none_kept e = sym (take-append-le most_cells cells (x ∷ []) (omega arith) ∙ take_all most_cells cells (omega arith))
+
+-- no more cells are kept than may be, however many bytes follow
+pub kept_few : (s : State) (bs : List ℕ) → cells_kept s ≤ most_cells → cells_kept (fed s bs) ≤ most_cells
+unfolding fed
+kept_few s [] l = l
+kept_few s (b ∷ bs) l = kept_few (stepped s b) bs (one s l)
+  where
+    digit : (t : Bool) → cells_kept (cond t (after_digit (width_of b)) wrong) ≤ most_cells
+    digit true = omega arith
+    digit false = omega arith
+
+    run : (n : ℕ) (t : Bool) → cells_kept (cond t (in_run n []) wrong) ≤ most_cells
+    run n true = omega arith
+    run n false = omega arith
+
+    cell : (n : ℕ) (cells : List ℕ) (feed cell : Bool) → length cells ≤ most_cells
+        → cells_kept (cond feed (at_end n cells) (cond cell (in_run n (keep (cells ++ (cell_of b ∷ [])))) wrong)) ≤ most_cells
+    cell n cells true t l = l
+    cell n cells false true l = omega (arith, length-take most_cells (cells ++ (cell_of b ∷ [])))
+    cell n cells false false l = omega arith
+
+    one : (s : State) → cells_kept s ≤ most_cells → cells_kept (stepped s b) ≤ most_cells
+    one at_start l = digit (is_digit b)
+    one (after_digit n) l = run n (eqb b line_feed)
+    one (in_run n cells) l = cell n cells (eqb b line_feed) (is_cell b) l
+    one (at_end n cells) l = omega arith
+    one wrong l = l
 
 -- a call whose further conditions are the rest refuses the cells that are kept exactly as it refuses the whole run; where the table is not refused,
 -- they are the whole run

@@ -57,6 +57,14 @@ closed (in_run n cells) = refuses not_in_form
 closed (at_end n cells) = gives (record { width = n; cells = cells })
 closed wrong = refuses not_in_form
 
+-- how many cells are kept in a state; at most `most_cells`, where the bytes so far lead to it
+abbrev pub cells_kept : State → ℕ
+cells_kept at_start = 0
+cells_kept (after_digit n) = 0
+cells_kept (in_run n cells) = length cells
+cells_kept (at_end n cells) = length cells
+cells_kept wrong = 0
+
 -- ---- room for what is printed
 
 -- the digits of the largest 64-bit number

@@ -16,11 +16,11 @@ use spelling::MOST_CODES;
 use std::marker::Model;
 
 // One cell more than the widest table has.
-const MOST_CELLS: usize = MOST_CODES + 1;
+pub const MOST_CELLS: usize = MOST_CODES + 1;
 
 // What comes next in a text in form.
 #[derive(Clone, Copy)]
-enum Next {
+pub enum Next {
     // The width.
     Width,
     // The line feed behind this width.
@@ -118,9 +118,10 @@ impl Model for Reader {
 }
 
 impl Reader {
-    ghost use Rattle.std.specs.Prelude.{◌≡◌, MatchResult};
+    ghost use Rattle.std.specs.Prelude.{◌≡◌, ◌≤◌, IfOk, MatchResult, length};
     ghost use Rattle.cube.specs.Calls.{refusal_number, refuses, gives};
-    ghost use Rattle.text.specs.Steps.{State, at_start, wrong, stepped, fed, closed};
+    ghost use Rattle.text.specs.Steps.{State, at_start, wrong, stepped, fed, closed, most_cells};
+    ghost use Rattle.text.specs.Readers.{state_of};
 
     // Nothing has been read yet.
     pub fn new() -> Self
@@ -132,8 +133,28 @@ impl Reader {
         }
     }
 
+    // A reader that has come to where this comes next, with these cells of the run, or to a text that is not in form.
+    pub fn from_parts(next: Option<Next>, cells: &[u8]) -> Self
+        requires { length cells.now ≤ most_cells }
+        ensures { result ≡ state_of next cells.now }
+    {
+        let mut kept = ArrayVec::new();
+        if let Some(Next::Cell(_) | Next::End(_)) = next {
+            let _ = kept.try_extend_from_slice(cells);
+        }
+        Reader { next, cells: kept }
+    }
+
+    // What comes next, None where the text is not in form whatever follows, and the cells that are kept.
+    pub fn parts(&self) -> (Option<Next>, &[u8])
+        ensures state { self.now ≡ state_of result.0 result.1.now }
+        ensures few { length result.1.now ≤ most_cells }
+    {
+        (self.next, &self.cells)
+    }
+
     // The next byte.
-    fn push(&mut self, byte: u8)
+    pub fn step(&mut self, byte: u8)
         ensures { self.new ≡ stepped self.old byte }
     {
         if let Some(next) = self.next {
@@ -147,7 +168,7 @@ impl Reader {
         ensures { self.new ≡ fed self.old piece.now }
     {
         for byte in piece {
-            self.push(*byte);
+            self.step(*byte);
         }
     }
 
@@ -160,8 +181,9 @@ impl Reader {
 
     // What the text says, where it ends here.
     pub fn text(&self) -> Result<Text<'_>, Refusal>
-        ensures { MatchResult result (λ t. closed self.now ≡ gives (record { width = t.width; cells = t.cells.now }))
+        ensures text { MatchResult result (λ t. closed self.now ≡ gives (record { width = t.width; cells = t.cells.now }))
             (λ e. closed self.now ≡ refuses (refusal_number e)) }
+        ensures few { IfOk result (λ t. length t.cells.now ≤ most_cells) }
     {
         match self.next {
             Some(Next::End(width)) => Ok(Text {

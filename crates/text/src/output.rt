@@ -4,12 +4,11 @@ ghost use Rattle.std.specs.Prelude.{◌≡◌, ◌++◌, ◌+◌, ◌<◌, ◌�
 ghost use Rattle.arrayvec.specs.ArrayString.{array_string_len};
 ghost use Rattle.cube.specs.Words.{digit_of, rows_of};
 ghost use Rattle.cube.specs.Theorems.{bit_of_variable, Variable};
-ghost use Rattle.cube.specs.Calls.{refusal_number};
 ghost use Rattle.text.specs.Output.{in_decimal, character_of_variable, row_line, list_lines, totals_line, refused, list_text};
 ghost use Rattle.text.specs.Steps.{digit_number, most_refusal, Printable};
 
 use arrayvec::ArrayString;
-use cube::{Refusal, Row};
+use cube::Row;
 use itoa::Buffer;
 use lists::{BITS, Rows};
 use spelling::MOST_CODE_PAIRS;
@@ -106,15 +105,15 @@ pub fn list(n: usize, rows: Rows, bits: usize) -> ArrayString<MOST_OUTPUT>
     out
 }
 
-// What is printed for a refusal.
+// What is printed for a refusal with number k.
 #[tactic(auto, using(crate::proofs::Lines::number_length))]
-pub fn refusal<const N: usize>(refusal: Refusal) -> ArrayString<N>
+pub fn refusal<const N: usize>(k: u8) -> ArrayString<N>
     requires { most_refusal ≤ N }
-    ensures { result.bytes ≡ refused (refusal_number refusal) }
+    ensures { result.bytes ≡ refused k }
 {
     let mut out = ArrayString::new();
     out.push_str("refused ");
-    number(usize::from(refusal.number()), &mut out);
+    number(usize::from(k), &mut out);
     out.push('\n');
     out
 }

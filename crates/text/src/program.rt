@@ -43,7 +43,7 @@ pub fn reply<P: Program<N>, const N: usize>(reader: &Reader) -> ArrayString<N>
 {
     match answer::<P, N>(reader) {
         Ok(text) => text,
-        Err(refusal) => output::refusal(refusal),
+        Err(refusal) => output::refusal(refusal.number()),
     }
 }
 

@@ -11,7 +11,7 @@ push-requires g c = (
   search rules,
   omega (
     arith,
-    ap length c.number-2.ensures,
+    ap length c.number.ensures,
     length-append c.push_str.new.self.bytes (in_decimal c.from.result),
     number_length c.from.result (omega arith),
     ap length c.push_str.ensures.bytes,
