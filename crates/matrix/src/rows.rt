@@ -13,8 +13,8 @@ const WORDS: usize = 12;
 // A set has rows below this number.
 pub const LIMIT: usize = WORDS * words::BITS;
 
-// A set of rows.
-#[derive(Clone, Copy)]
+// A set of rows. By default it has no row.
+#[derive(Clone, Copy, Debug, Default, PartialEq, Eq, PartialOrd, Ord, Hash)]
 pub struct Set {
     words: [Word; WORDS],
 }

@@ -7,7 +7,7 @@ ghost use Rattle.matrix.specs.Matrix.{row_count};
 use crate::{Subproblem, columns, rows};
 
 // A set of rows for each column.
-#[derive(Drop)]
+#[derive(Clone, Copy, Debug, Default, PartialEq, Eq, PartialOrd, Ord, Hash)]
 pub struct ByColumn {
     sets: [rows::Set; columns::LIMIT],
 }
