@@ -1,7 +1,7 @@
 // The matrix by columns: the live rows that cover each undecided column. It is a hint that makes loops shorter. Nothing is promised of which rows it
 // has, and whoever uses it checks what it finds.
-ghost use Rattle.std.specs.Prelude.{◌≡◌, ◌<◌};
-ghost use Rattle.matrix.specs.Sets.{column_limit};
+ghost use Rattle.std.specs.Prelude.{◌≡◌, ◌<◌, ◌≤◌};
+ghost use Rattle.matrix.specs.Sets.{column_limit, row_limit};
 ghost use Rattle.matrix.specs.Matrix.{row_count};
 
 use crate::{Subproblem, columns, rows};
@@ -13,11 +13,13 @@ pub struct ByColumn {
 }
 
 impl ByColumn {
-    // The live rows noted at their undecided columns.
-    pub fn of(problem: &Subproblem) -> ByColumn {
+    // The live rows noted at their undecided columns. It takes no weights, and so no `Matrix`.
+    pub fn of(words: &[columns::Set], live: &rows::Set, undecided: columns::Set) -> ByColumn
+        requires { row_count words.now ≤ row_limit }
+    {
         let mut sets = [rows::Set::none(); columns::LIMIT];
-        for i in problem.rows() {
-            for c in problem.columns_of(i) {
+        for i in live.iter(crate::row_count(words)) {
+            for c in crate::covered(words, i) & undecided {
                 sets[c].insert(i);
             }
         }
