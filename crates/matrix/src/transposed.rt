@@ -13,6 +13,8 @@ pub struct ByColumn {
 }
 
 impl ByColumn {
+    ghost use Rattle.matrix.specs.Transposed.{noted};
+
     // The live rows noted at their undecided columns. It takes no weights, and so no `Matrix`.
     pub fn of(words: &[columns::Set], live: &rows::Set, undecided: columns::Set) -> ByColumn
         requires { row_count words.now ≤ row_limit }
@@ -29,6 +31,7 @@ impl ByColumn {
     // The rows noted at the column c, which is asked to be one of a set's.
     pub fn at(&self, c: usize) -> &rows::Set
         requires { c < column_limit }
+        ensures { result.now ≡ noted self.now c }
     {
         &self.sets[c]
     }
@@ -45,10 +48,12 @@ impl<'a> Indexed<'a> {
     ghost use Rattle.std.specs.Iterator.Runs.{EachRunFrom};
     ghost use Rattle.numbers.specs.Ascending.{GivesBelow};
     ghost use Rattle.matrix.specs.Walks.{rows_end, rows_left, YieldsRows};
+    ghost use Rattle.matrix.specs.Transposed.{noted};
 
     // The rows noted at the column c.
     pub fn rows_at(&self, c: usize) -> &'a rows::Set
         requires { c < column_limit }
+        ensures { result.now ≡ noted self.now.by_column.now c }
     {
         self.by_column.at(c)
     }
