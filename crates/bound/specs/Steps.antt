@@ -1,9 +1,9 @@
--- What the steps of a bound promise each other: when prices for the columns are a certificate. Nobody who calls the bound has to believe them. Definitions
--- only. Assumes nothing.
+-- What the steps of a bound promise each other: when prices for the columns are a certificate. Nobody who calls the bound has to believe them. What prices are
+-- worth is defined in `pricing` (`Prices`). Definitions only. Assumes nothing.
 use Rattle.std.specs.Prelude.{ℕ, ◌<◌, ◌≤◌, Bool, ◌&&◌, List}
 use Rattle.matrix.specs.Sets.{ColumnSet, RowSet, has, Member}
 use Rattle.matrix.specs.Matrix.{row_count, covered, weight_of, Low, weight_limit}
-use Rattle.pricing.specs.Prices.{worth, Valued}
+pub use Rattle.pricing.specs.Prices.{worth_limit, level_count, price_of, worth, Valued}
 use Rattle.bound.specs.Bound.{Limited}
 
 -- ---- the certificate

@@ -7,7 +7,7 @@ ghost use Rattle.bound.specs.Bound.{cost_limit, Kept, Bounds};
 ghost use Rattle.bound.specs.Steps.{row_columns, Pays, Feasible, Ranges, Rounded, Certificate};
 
 use matrix::{Matrix, Subproblem, columns, rows};
-use pricing::Prices;
+pub use pricing::Prices;
 
 // A sub-problem with prices for its columns.
 #[derive(Clone, Copy)]
@@ -44,10 +44,10 @@ impl<'a, 'b> Offer<'a, 'b> {
 
 // The least and the largest weight of some rows.
 #[derive(Clone, Copy)]
-struct Range {
-    least: u64,
-    most: u64,
-    ghost ordered: { least ≤ most },
+pub struct Range {
+    pub least: u64,
+    pub most: u64,
+    pub ghost ordered: { least ≤ most },
 }
 
 // The range of the live rows' weights, if there is a row. The largest counts as 1 at least.

@@ -37,7 +37,7 @@ fn tighten_by<F: Fn(&Problem) -> Prices>(
         live: &first,
         undecided,
     };
-    let by_column = ByColumn::of(&covering);
+    let by_column = ByColumn::of(matrix.words, &first, undecided);
     let prices = find(&Problem {
         indexed: Indexed {
             problem: covering,

@@ -1,20 +1,20 @@
 -- Rows gathered one by one: each row adds its columns and its weight, which no later row changes. In the end a set that the columns gathered include is
 -- covered. Assumes nothing.
-use Rattle.std.proofs.Common.{◌≡◌, ℕ, ◌+◌, ◌<◌, ◌≤◌, Bool, true, false, not, ◌&&◌, ◌||◌, eqb, List, length, sym, refl, ap, ◌∙◌, subst, ⊎_elim, arith, eq-eqb, eqb-true}
+use Rattle.std.proofs.Common.{◌≡◌, ℕ, ◌+◌, ◌<◌, ◌≤◌, Bool, true, false, not, ◌&&◌, ◌||◌, eqb, List, length, sym, refl, ap, ◌∙◌, subst, inl, inr, ⊎_elim, arith, eq-eqb, eqb-true}
 use native.Mathlib.Decide.{dec_lt}
 use lib.ListN.{get_or-eq_default}
 use Rattle.std.specs.Prelude.{Option, None, Some, IfNone}
-use Rattle.std.proofs.lemmas.Bool.{or_left, or_right}
+use Rattle.std.proofs.lemmas.Bool.{false_from_ne_true, or_left, or_right}
 use Rattle.covering.specs.Sum.{if_set, sum}
 use Rattle.covering.specs.Weighted.{set_size}
 use Rattle.numbers.proofs.Flags.{clash, either_of, kept_of_lem, kept_or}
 use Rattle.covering.proofs.Sums.{sum_same, sum_skip, sum_with, if_set_false, if_set_le}
 use Rattle.matrix.specs.Sets.{ColumnSet, RowSet, row_limit, has, In, member, Member}
-use Rattle.matrix.specs.Matrix.{row_count, covered, weight_of, weight_limit}
+use Rattle.matrix.specs.Matrix.{row_count, covered, CoversColumn, weight_of, weight_limit}
 use Rattle.matrix.proofs.Bits.{has_zero}
 use Rattle.matrix.proofs.Without.{size_most, each_row_lem}
 use Rattle.incumbent.specs.Incumbent.{IsCover, above_all, Uncovered}
-use Rattle.incumbent.specs.Steps.{Counted}
+use Rattle.incumbent.specs.Steps.{Counted, Spent}
 use Rattle.incumbent.specs.declared.Gathered.{Gathered}
 
 -- two flags that are set together
@@ -54,12 +54,10 @@ module _ (words weights : List ℕ) where
   pub counted_below : (g : Gathered) → Counted words weights g → g.weight < above_all
   counted_below g h = omega (arith, h.small, size_most row_limit g.rows)
 
-  -- where each live row is gathered, a column that is still open has no live row
-  pub none_left : (live : RowSet) (u left : ColumnSet) (g : Gathered) → Counted words weights g → ((c : ℕ) → has left c ≡ (has u c && not (has g.columns c)))
-      → (c : ℕ) × In left c → ((i : ℕ) → i < row_count words → Member live i → Member g.rows i) → Uncovered words live u
-  none_left live u left g h e o all =
-      let k = kept_of_lem (has u o.0) (has g.columns o.0) (e o.0) o.1 in
-      (o.0, k.0, λ i m v. each_row_lem words (λ i. Member live i → ⊥) o.0 (row_count words) (omega arith) (λ i l v m. k.1 (h.covers i o.0 (all i l m) v)) i v m)
+  -- a row that covers an open column is not gathered
+  pub row_new : (u left : ColumnSet) (g : Gathered) (i : ℕ) → Counted words weights g → ((c : ℕ) → has left c ≡ (has u c && not (has g.columns c)))
+      → (c : ℕ) × CoversColumn words i c × In left c → member g.rows i ≡ false
+  row_new u left g i h e o = false_from_ne_true (member g.rows i) (λ m. (kept_of_lem (has u o.0) (has g.columns o.0) (e o.0) o.2).1 (h.covers i o.0 m o.1))
 
   -- the rows picked before the end that are live are gathered: where those picked are a cover, these are one of the same weight
   module _ (live : RowSet) (u : ColumnSet) (picked : RowSet) (g : Gathered) (within : (j : ℕ) → Member g.rows j → Member picked j)
@@ -78,9 +76,17 @@ module _ (words weights : List ℕ) where
             let none : weight_of weights i ≡ 0 = get_or-eq_default weights 0 (omega arith) in
             omega (arith, if_set_le (member g.rows i) (weight_of weights i), if_set_le (member picked i) (weight_of weights i))
 
--- where no column is open, each is gathered
-pub all_gathered : (u left columns : ColumnSet) → ((c : ℕ) → has left c ≡ (has u c && not (has columns c))) → ((c : ℕ) → In left c → ⊥) → (c : ℕ) → In u c → In columns c
-all_gathered u left columns e none c h = ⊎_elim (λ k. k) (λ k. absurd (none c k)) (kept_or (has u c) (has columns c) (e c) h)
+-- the columns gathered, where no live row covers an open column any more
+module _ (words : List ℕ) (live : RowSet) (u columns : ColumnSet) where
+  pub spent : (left : ColumnSet) → ((c : ℕ) → has left c ≡ (has u c && not (has columns c)))
+      → ((i : ℕ) → i < row_count words → Member live i → (c : ℕ) → CoversColumn words i c → In left c → ⊥) → Spent words live u columns
+  spent left e none c v =
+      ⊎_elim inl (λ o. inr (λ i m k. each_row_lem words (λ i. Member live i → ⊥) c (row_count words) (omega arith) (λ i l k m. none i l m c k o) i k m))
+      (kept_or (has u c) (has columns c) (e c) v)
+
+  -- a column that they miss has no live row
+  pub spent_misses : Spent words live u columns → (c : ℕ) × In u c × (In columns c → ⊥) → Uncovered words live u
+  spent_misses s o = (o.0, o.1, ⊎_elim (λ y. absurd (o.2 y)) (λ n. n) (s o.0 o.1))
 
 -- one row more
 pub size_more : (i : ℕ) (s t : RowSet) → i < row_limit → member s i ≡ false → ((j : ℕ) → member t j ≡ (eqb j i || member s j))

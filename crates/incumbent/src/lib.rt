@@ -4,7 +4,7 @@
 // Rows {0, 1}, {1, 2} and {0, 2}, each of weight 5, for the columns 0, 1 and 2: the rows 0 and 1 are a cover of weight 10, and the row 0 alone is none.
 #![tactic(auto)]
 
-ghost use Rattle.std.specs.Prelude.{◌≡◌, false, List, ℕ, ◌<◌, ◌≤◌, ◌||◌, eqb, IfSome, IfNone};
+ghost use Rattle.std.specs.Prelude.{◌≡◌, false, List, ℕ, ◌<◌, ◌≤◌, ◌||◌, ◌⊎◌, eqb, IfSome, IfNone};
 ghost use Rattle.matrix.specs.Matrix.{row_count};
 ghost use Rattle.matrix.specs.Sets.{In, member, Member};
 ghost use Rattle.incumbent.specs.Incumbent.{weight_or, IsCover, Incumbent};
@@ -72,7 +72,7 @@ impl Gathered {
         requires counted { Counted problem.now.matrix.words.now problem.now.matrix.weights.now self.now }
         requires live { (i : ℕ) → Member self.now.rows i → Member problem.now.live.now i }
         ensures some { let p = problem.now in IfSome result (λ c. Incumbent p.matrix.words.now p.matrix.weights.now p.live.now p.undecided limit c) }
-        ensures none { IfNone result (((x : ℕ) → In problem.now.undecided x → In self.now.columns x) → limit ≤ self.now.weight) }
+        ensures none { IfNone result ((limit ≤ self.now.weight) ⊎ ((x : ℕ) × In problem.now.undecided x × (In self.now.columns x → ⊥))) }
     {
         if self.weight < limit && problem.undecided.is_subset(self.columns) {
             return Some(Cover {

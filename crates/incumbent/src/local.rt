@@ -244,11 +244,9 @@ impl Workspace {
     fn start(&mut self, indexed: &Indexed) {
         let problem = &indexed.problem;
         self.raise(indexed, problem.undecided);
-        // No limit: a cover of any weight will do to start from.
-        if let Some(cover) = greedy::cover(problem, u64::MAX) {
-            for i in cover.rows.iter(problem.matrix.rows()) {
-                self.flip(indexed, i);
-            }
+        let rows = greedy::cover(problem);
+        for i in rows.iter(problem.matrix.rows()) {
+            self.flip(indexed, i);
         }
     }
 }

@@ -4,7 +4,7 @@
 // A row with the columns 0 and 3: `for c in Word::from(9)` goes through 0 and 3.
 #![tactic(auto)]
 
-ghost use Rattle.std.specs.Prelude.{◌≡◌, true, ◌&&◌, ℕ, ◌<◌, ◌≤◌};
+ghost use Rattle.std.specs.Prelude.{◌≡◌, true, ◌&&◌, ℕ, ◌<◌, ◌≤◌, length};
 ghost use Rattle.matrix.specs.Sets.{row_limit, has, member};
 ghost use Rattle.matrix.specs.Matrix.{row_count, covered, weight_of, weight_limit, Sizes, StandsIn};
 
@@ -12,6 +12,33 @@ pub mod columns;
 pub mod rows;
 pub mod transposed;
 pub mod words;
+
+// The number of rows.
+#[inline]
+pub fn row_count(words: &[columns::Set]) -> usize
+    ensures { result ≡ row_count words.now }
+{
+    words.len()
+}
+
+// The columns that the row i covers. The row is asked to be one of the matrix: a number does not know of which matrix it is a row.
+#[inline]
+pub fn covered(words: &[columns::Set], i: usize) -> columns::Set
+    requires { i < row_count words.now }
+    ensures { result ≡ covered words.now i }
+{
+    words[i]
+}
+
+// The weight of the row i.
+#[inline]
+pub fn weight(weights: &[u32], i: usize) -> u64
+    requires { i < length weights.now }
+    ensures is { result ≡ weight_of weights.now i }
+    ensures small { result < weight_limit }
+{
+    u64::from(weights[i])
+}
 
 // A covering matrix: the columns of each row, and its weight. Two slices and not one of pairs: C lends two.
 #[derive(Clone, Copy)]
@@ -28,16 +55,16 @@ impl<'a> Matrix<'a> {
         ensures is { result ≡ row_count self.entry.words.now }
         ensures few { result ≤ row_limit }
     {
-        self.words.len()
+        row_count(self.words)
     }
 
-    // The columns that the row i covers. The row is asked to be one of the matrix: a number does not know of which matrix it is a row.
+    // The columns that the row i covers.
     #[inline]
     pub fn columns_of(self, i: usize) -> columns::Set
         requires { i < row_count self.words.now }
         ensures { result ≡ covered self.entry.words.now i }
     {
-        self.words[i]
+        covered(self.words, i)
     }
 
     // The weight of the row i.
@@ -47,7 +74,7 @@ impl<'a> Matrix<'a> {
         ensures is { result ≡ weight_of self.entry.weights.now i }
         ensures small { result < weight_limit }
     {
-        u64::from(self.weights[i])
+        weight(self.weights, i)
     }
 }
 

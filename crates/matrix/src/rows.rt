@@ -1,7 +1,7 @@
 // Sets of rows: arrays of twelve words of 64 bits.
 ghost use Rattle.std.specs.Prelude.{◌≡◌, true, false, not, ◌&&◌, ◌||◌, ℕ, ◌≤◌, ◌<◌, eqb, ltb, length, get_or, MatchOption};
 ghost use Rattle.covering.specs.Weighted.{set_size};
-ghost use Rattle.matrix.specs.Sets.{row_limit, row_words, member, Member};
+ghost use Rattle.matrix.specs.Sets.{row_limit, row_words, member, Member, NextIfAny};
 
 use crate::words::{self, Word};
 use std::array;
@@ -13,8 +13,8 @@ const WORDS: usize = 12;
 // A set has rows below this number.
 pub const LIMIT: usize = WORDS * words::BITS;
 
-// A set of rows.
-#[derive(Clone, Copy)]
+// A set of rows. By default it has no row.
+#[derive(Clone, Copy, Debug, Default, PartialEq, Eq, PartialOrd, Ord, Hash)]
 pub struct Set {
     words: [Word; WORDS],
 }
@@ -133,6 +133,20 @@ impl Set {
             base: 0,
             end,
         }
+    }
+
+    // The first row from `from` on and before `end`.
+    #[tactic(auto, using(numbers::proofs::Loops::turn_in))]
+    pub fn next_from(&self, from: usize, end: usize) -> Option<usize>
+        requires { (from ≤ end) × (end ≤ row_limit) }
+        ensures { NextIfAny (member self.now) from end result }
+    {
+        for i in self.iter(end) {
+            if from <= i {
+                return Some(i);
+            }
+        }
+        None
     }
 
     // How many rows before `end` a set has.

@@ -1,23 +1,27 @@
 // The matrix by columns: the live rows that cover each undecided column. It is a hint that makes loops shorter. Nothing is promised of which rows it
 // has, and whoever uses it checks what it finds.
-ghost use Rattle.std.specs.Prelude.{◌≡◌, ◌<◌};
-ghost use Rattle.matrix.specs.Sets.{column_limit};
+ghost use Rattle.std.specs.Prelude.{◌≡◌, ◌<◌, ◌≤◌};
+ghost use Rattle.matrix.specs.Sets.{column_limit, row_limit};
 ghost use Rattle.matrix.specs.Matrix.{row_count};
 
 use crate::{Subproblem, columns, rows};
 
 // A set of rows for each column.
-#[derive(Drop)]
+#[derive(Clone, Copy, Debug, Default, PartialEq, Eq, PartialOrd, Ord, Hash)]
 pub struct ByColumn {
     sets: [rows::Set; columns::LIMIT],
 }
 
 impl ByColumn {
-    // The live rows noted at their undecided columns.
-    pub fn of(problem: &Subproblem) -> ByColumn {
+    ghost use Rattle.matrix.specs.Transposed.{noted};
+
+    // The live rows noted at their undecided columns. It takes no weights, and so no `Matrix`.
+    pub fn of(words: &[columns::Set], live: &rows::Set, undecided: columns::Set) -> ByColumn
+        requires { row_count words.now ≤ row_limit }
+    {
         let mut sets = [rows::Set::none(); columns::LIMIT];
-        for i in problem.rows() {
-            for c in problem.columns_of(i) {
+        for i in live.iter(crate::row_count(words)) {
+            for c in crate::covered(words, i) & undecided {
                 sets[c].insert(i);
             }
         }
@@ -27,6 +31,7 @@ impl ByColumn {
     // The rows noted at the column c, which is asked to be one of a set's.
     pub fn at(&self, c: usize) -> &rows::Set
         requires { c < column_limit }
+        ensures { result.now ≡ noted self.now c }
     {
         &self.sets[c]
     }
@@ -43,10 +48,12 @@ impl<'a> Indexed<'a> {
     ghost use Rattle.std.specs.Iterator.Runs.{EachRunFrom};
     ghost use Rattle.numbers.specs.Ascending.{GivesBelow};
     ghost use Rattle.matrix.specs.Walks.{rows_end, rows_left, YieldsRows};
+    ghost use Rattle.matrix.specs.Transposed.{noted};
 
     // The rows noted at the column c.
     pub fn rows_at(&self, c: usize) -> &'a rows::Set
         requires { c < column_limit }
+        ensures { result.now ≡ noted self.now.by_column.now c }
     {
         self.by_column.at(c)
     }

@@ -11,7 +11,7 @@ use matrix::transposed::Indexed;
 use matrix::{columns, rows};
 
 // A slack for each row.
-type Slacks = [u32; rows::LIMIT];
+pub type Slacks = [u32; rows::LIMIT];
 
 // The levels of columns, which are raised one after the other.
 const LEVELS: usize = 16;

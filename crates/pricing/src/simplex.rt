@@ -48,7 +48,7 @@ struct Variable {
 
 // What outlives a linear program: a share for each row of the matrix, the columns whose prices were in the last basis, and whether the price of a row was.
 // The prices of columns are the bits of a set, and that of a row, which is no column's, has a bit of its own.
-#[derive(Drop)]
+#[derive(Clone, Copy, Debug, Default, PartialEq, PartialOrd)]
 pub struct Recalled {
     pub shares: [f32; rows::LIMIT],
     pub basic: columns::Set,

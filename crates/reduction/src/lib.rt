@@ -21,7 +21,7 @@ pub use remaining::Remaining;
 fn pass(matrix: Matrix, state: &mut Remaining)
     ensures { Onward matrix.entry.words.now matrix.entry.weights.now state.old state.new }
 {
-    state.undecided = column_dominance::drop_columns(&state.left(matrix));
+    state.undecided = column_dominance::drop_columns(matrix.words, &state.live, state.undecided);
     state.live = row_dominance::drop_rows(&state.left(matrix));
     forced::take_forced(matrix, state);
 }

@@ -36,7 +36,7 @@ fn is_droppable(problem: &Subproblem, by_column: &ByColumn, i: usize) -> bool
 pub fn drop_rows(problem: &Subproblem) -> rows::Set
     ensures { let p = problem.now in Keeps p.matrix.words.now p.matrix.weights.now p.live.now p.undecided result p.undecided }
 {
-    let by_column = ByColumn::of(problem);
+    let by_column = ByColumn::of(problem.matrix.words, problem.live, problem.undecided);
     let mut live = *problem.live;
     for i in problem.rows() {
         let left = Subproblem {

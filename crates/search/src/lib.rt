@@ -168,7 +168,7 @@ pub fn minimum_cover(matrix: Matrix, columns: columns::Set) -> Solution
         undecided: columns,
     };
     let first = Solution {
-        cover: greedy::cover(&problem, FIRST_LIMIT),
+        cover: greedy::cover_below(&problem, FIRST_LIMIT),
         nodes: 0,
         depth: 0,
     };

@@ -23,7 +23,8 @@ fn stand_in(
         .find(|&j| problem.stands_in(set, i, j))
 }
 
-// An image of the row i by an exchange, if one is found. Where the image of its columns has no undecided one, any live row that weighs no more stands in.
+// An image of the row i by an exchange, if one is found. It is looked for among the rows noted at the first undecided column of the image, and where that has no
+// undecided column, any live row that weighs no more will do: one is looked for among the rows noted at the column 0.
 pub fn image(indexed: &Indexed, exchange: &Exchange, i: usize) -> Option<usize>
     requires { i < row_count indexed.now.problem.matrix.words.now }
     ensures below { IfSome result (λ j. j < row_count indexed.now.problem.matrix.words.now) }
@@ -31,9 +32,6 @@ pub fn image(indexed: &Indexed, exchange: &Exchange, i: usize) -> Option<usize>
 {
     let problem = &indexed.problem;
     let set = exchange.of_set(problem.matrix.columns_of(i)) & problem.undecided;
-    let candidates = match set.first() {
-        Some(c) => indexed.rows_at(c),
-        None => problem.live,
-    };
-    stand_in(problem, candidates, set, i)
+    let c = set.first().unwrap_or(0);
+    stand_in(problem, indexed.rows_at(c), set, i)
 }

@@ -1,5 +1,5 @@
 -- `incumbent::checked` meets its contract: what the end of the loop tells. Assumes nothing.
-use Rattle.std.proofs.Common.{ℕ, ◌<◌, arith}
+use Rattle.std.proofs.Common.{ℕ, ◌<◌, ⊎_elim, arith}
 use Rattle.numbers.proofs.Flags.{clash}
 use Rattle.matrix.proofs.Loops.{rows_end_has}
 use Rattle.matrix.specs.Sets.{Member}
@@ -24,5 +24,5 @@ returns-clause-none c =
     let all : (j : ℕ) → j < row_count c.args.problem.now.matrix.words.now → Member c.args.picked.now j → Member c.args.problem.now.live.now j → Member c.loop-i.gathered.rows j =
     λ j l m. i.all j (ended.all j (omega (arith, c.rows.ensures.is)) m) m in
     if_none c.cover.result c.cover.ensures.none
-    (λ h k x. let least = h (all_covered _ _ _ _ _ _ i.picked all i.counted x) in
-    omega (arith, all_weighed _ _ _ _ _ _ i.picked all i.counted x c.args.problem.now.matrix.sizes.same))
+    (λ h k x. ⊎_elim (λ heavy. omega (arith, all_weighed _ _ _ _ _ _ i.picked all i.counted x c.args.problem.now.matrix.sizes.same))
+    (λ o. absurd (o.2 (all_covered _ _ _ _ _ _ i.picked all i.counted x o.0 o.1))) h)

@@ -7,10 +7,9 @@ use Rattle.reduction.proofs.pass.Goals as goal
 pub returns : goal.returns
 returns c =
     let left = c.left.ensures in
-    let over = c.left-2.ensures in
     let state = c.args.state.now in
     let kept : Keeps c.args.matrix.words.now c.args.matrix.weights.now state.live state.undecided state.live c.drop_columns-state.result =
-    rw (sym left.words, sym left.live, sym left.undecided) (c.drop_columns-state.ensures c.args.matrix.weights.now) in
+    c.drop_columns-state.ensures c.args.matrix.weights.now in
     let fewer : Keeps c.args.matrix.words.now c.args.matrix.weights.now state.live c.drop_columns-state.result c.drop_rows-state.result c.drop_columns-state.result =
-    rw (sym over.words, sym over.weights, sym over.live, sym over.undecided) c.drop_rows-state.ensures in
+    rw (sym left.words, sym left.weights, sym left.live, sym left.undecided) c.drop_rows-state.ensures in
     onward_kept _ _ _ _ _ kept fewer refl refl c.take_forced.ensures

@@ -4,4 +4,4 @@ use Rattle.reduction.specs.Steps.{Along}
 use Rattle.reduction.proofs.column_dominance.come_along.Given as goal
 
 abbrev pub invariant-loop-i : goal.invariant-loop-i
-invariant-loop-i l = Along l.problem.matrix.words.now l.problem.live.now l.problem.undecided (passed l.yielded) l.along
+invariant-loop-i l = Along l.words l.live l.undecided (passed l.yielded) l.along

@@ -12,7 +12,7 @@ loop-d-preserved-then-contains c =
     let is : In c.loop-d.kept c.in-Some.d = sym c.contains.ensures ∙ c.if-contains.true in
     let below : c.in-Some.d < column_limit = c.into_iter-d-iterator.ensures.into_iter_gives.1 c.in-Some.d (c.loop-d.invariant.0 c.in-Some.d is) in (
       λ x h. c.loop-d.invariant.0 x (kept_of_lem (has c.loop-d.kept x) (has c.sub.result x) (c.sub_assign.ensures.after x) h).0,
-      λ weights. keeps_then c.args.problem.now.matrix.words.now weights _ _ _ _ _ _ (c.loop-d.invariant.1 weights)
+      λ weights. keeps_then c.args.words.now weights _ _ _ _ _ _ (c.loop-d.invariant.1 weights)
           (drop_along _ _ _ c.come_along-along.result _ _ _ _ _ _ _ (omega arith) c.come_along-along.ensures c.loop-d.invariant.0 is c.only.ensures c.sub.ensures
           c.sub_assign.ensures.after),
     )

@@ -7,5 +7,5 @@ use Rattle.reduction.proofs.column_dominance.drop_columns.Given as goal
 
 abbrev pub invariant-loop-d : goal.invariant-loop-d
 invariant-loop-d l =
-    ((x : ℕ) → In l.kept x → In l.problem.undecided x)
-    × ((weights : List ℕ) → Keeps l.problem.matrix.words.now weights l.problem.live.now l.problem.undecided l.problem.live.now l.kept)
+    ((x : ℕ) → In l.kept x → In l.fn.undecided x)
+    × ((weights : List ℕ) → Keeps l.words weights l.live l.fn.undecided l.live l.kept)
