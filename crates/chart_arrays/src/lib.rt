@@ -4,15 +4,15 @@
 //     chart_arrays::cube_columns(table, 2)        // cube 02 matches 0 and 1, of which 0 is wanted: the word 1
 #![tactic(auto)]
 
-ghost use Rattle.std.specs.Prelude.{◌≡◌, ◌==◌, ◌&&◌, ◌<◌, ◌^◌};
+ghost use Rattle.std.specs.Prelude.{◌≡◌, ◌==◌, ◌&&◌, ◌<◌, ◌≤◌, ◌^◌, length};
 ghost use Rattle.numbers.specs.Below.{word_of};
 ghost use Rattle.cube.specs.Words.{on_set, row_matches};
+ghost use Rattle.matrix.specs.Sets.{column_limit};
 ghost use Rattle.chart_arrays.specs.Columns.{columns_of};
 ghost use Rattle.chart_arrays.specs.Rows.{chart_row, chart_of};
 ghost use Rattle.chart_arrays.specs.Steps.{row_column};
 
 use arrayvec::ArrayVec;
-use cube::Row;
 use matrix::columns;
 use spelling::{Cube, MOST_CUBES};
 use tables::Table;
@@ -28,20 +28,22 @@ pub struct ChartRow {
 
 // Whether a cell is wanted and a row matches its code.
 #[tactic(auto, unfolding(cube::specs::Words::row_matches))]
-fn is_column(cell: u8, code: usize, row: Row) -> bool
-    ensures { result ≡ (cell == 1 && row_matches row code) }
+fn is_column(cell: u8, code: usize, value: usize, care: usize) -> bool
+    ensures { result ≡ (cell == 1 && row_matches (record { value = value; care = care }) code) }
 {
-    cell == 1 && code & usize::from(row.care) == usize::from(row.value)
+    cell == 1 && code & care == value
 }
 
-// The wanted codes that a row matches.
+// The wanted codes that a row matches: all of them for value 0 and care 0. The cells may be any number up to the columns of a set, and the value and the care
+// any numbers, which a `Row` would not hold.
 #[tactic(auto, using(crate::proofs::Columns::column_turn))]
-fn row_columns(table: Table, row: Row) -> columns::Set
-    ensures { result ≡ word_of (2 ^ table.entry.width) (row_column table.entry.cells.now row) }
+pub fn row_columns(table: &[u8], value: usize, care: usize) -> columns::Set
+    requires { length table.now ≤ column_limit }
+    ensures { result ≡ word_of (length table.now) (row_column table.now (record { value = value; care = care })) }
 {
     let mut word = columns::NONE;
-    for (code, cell) in table.cells.iter().enumerate() {
-        if is_column(*cell, code, row) {
+    for (code, cell) in table.iter().enumerate() {
+        if is_column(*cell, code, value, care) {
             word = word.with_next(code);
         }
     }
@@ -52,7 +54,7 @@ fn row_columns(table: Table, row: Row) -> columns::Set
 pub fn wanted(table: Table) -> columns::Set
     ensures { result ≡ word_of (2 ^ table.entry.width) (on_set table.entry.cells.now) }
 {
-    row_columns(table, Row { value: 0, care: 0 })
+    row_columns(table.cells, 0, 0)
 }
 
 // The wanted codes that cube q matches. That q is a cube of the table is asked, since a number does not know of which width it is a cube.
@@ -61,11 +63,12 @@ pub fn cube_columns(table: Table, q: usize) -> columns::Set
     ensures { result ≡ columns_of table.entry.width table.entry.cells.now q }
 {
     let width = table.width;
-    row_columns(table, Cube { width, number: q }.row())
+    let row = Cube { width, number: q }.row();
+    row_columns(table.cells, usize::from(row.value), usize::from(row.care))
 }
 
 // The chart's row of cube q.
-fn row(table: Table, q: u16) -> ChartRow
+pub fn row(table: Table, q: u16) -> ChartRow
     requires { q < 3 ^ table.width }
     ensures { result ≡ chart_row table.entry.width table.entry.cells.now q }
 {

@@ -13,6 +13,6 @@ pub word_more : (f : ℕ → ℕ) (m w : ℕ) {words words' : List ℕ} → word
 word_more f m w e g h =
     rw (h, e, g) (sym (ap (λ (i : ℕ). tabulate i 0 f) (add-one m) ∙ tabulate_more f m 0 ∙ ap (λ (i : ℕ). tabulate m 0 f ++ (f i ∷ [])) (zero-add m)))
 
-pub by_mark : (n : ℕ) (t : List ℕ) (marks : List Bool) (q : ℕ) {w : ℕ} → Marks (serving_prime n t) marks (3 ^ n) → q < 3 ^ n
+pub by_mark : (n : ℕ) (t : List ℕ) (marks : List Bool) (q : ℕ) {w : ℕ} → Marks (λ b. b) (serving_prime n t) marks (3 ^ n) → q < 3 ^ n
     → w ≡ cond (get_or marks q false) (columns_of n t q) 0 → w ≡ prime_word n t q
 by_mark n t marks q m l e = e ∙ ap (λ (b : Bool). cond b (columns_of n t q) 0) (m q l) ∙ serving_word n t q

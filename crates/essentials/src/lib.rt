@@ -5,7 +5,7 @@
 //     essentials::essentials(2, &[1, 0, 0, 2], &mut places)   // Ok(1): cube 0 (00); 11 matches no wanted code
 #![tactic(auto, using(cube::proofs::Calls::refusals, cube::proofs::Calls::cubes_most))]
 
-ghost use Rattle.std.specs.Prelude.{◌≡◌, cond, ◌<◌, ◌≤◌, ◌^◌, length};
+ghost use Rattle.std.specs.Prelude.{◌≡◌, [], cond, ◌<◌, ◌≤◌, ◌^◌, length};
 ghost use Rattle.numbers.specs.Below.{tabulate};
 ghost use Rattle.numbers.specs.Lent.{Puts};
 ghost use Rattle.cube.specs.Words.{serving_prime, essential, essentials_of};
@@ -33,17 +33,16 @@ fn prime_word(table: Table, marked: bool, q: usize) -> columns::Set
     }
 }
 
-// The words of all cubes: the columns of a prime, none for another cube. A prime that does not serve has no column.
-fn prime_words(table: Table, marks: &[bool]) -> ArrayVec<columns::Set, MOST_CUBES>
+// Notes the words of all cubes in an empty list that is lent: the columns of a prime, none for another cube. A prime that does not serve has no column.
+fn prime_words(table: Table, marks: &[bool], words: &mut ArrayVec<columns::Set, MOST_CUBES>)
+    requires none { words.old.items ≡ [] }
     requires long { length marks.now ≡ 3 ^ table.width }
-    requires marked { Marks (serving_prime table.width table.cells.now) marks.now (3 ^ table.width) }
-    ensures { result.items ≡ tabulate (3 ^ table.entry.width) 0 (prime_word table.entry.width table.entry.cells.now) }
+    requires marked { Marks (λ b. b) (serving_prime table.width table.cells.now) marks.now (3 ^ table.width) }
+    ensures { words.new.items ≡ tabulate (3 ^ table.entry.width) 0 (prime_word table.entry.width table.entry.cells.now) }
 {
-    let mut words = ArrayVec::new();
     for (q, marked) in marks.iter().enumerate() {
         words.push(prime_word(table, *marked, q));
     }
-    words
 }
 
 // The columns that one word alone has.
@@ -70,10 +69,11 @@ fn mark_holders(words: &[columns::Set], sole: columns::Set, marks: &mut [bool])
 // Marks the essential primes of a table, and no other cube.
 fn mark_essentials(table: Table, marks: &mut [bool])
     requires { 3 ^ table.width ≤ length marks.old }
-    ensures { Marks (essential table.entry.width table.entry.cells.now) marks.new (3 ^ table.entry.width) }
+    ensures { Marks (λ b. b) (essential table.entry.width table.entry.cells.now) marks.new (3 ^ table.entry.width) }
 {
     primes::mark_serving_primes(table, marks);
-    let words = prime_words(table, &marks[..table.cubes()]);
+    let mut words = ArrayVec::new();
+    prime_words(table, &marks[..table.cubes()], &mut words);
     let sole = sole_columns(words.as_slice());
     mark_holders(words.as_slice(), sole, marks);
 }

@@ -85,7 +85,7 @@ fn shortest(table: Table) -> CubeList
 }
 
 // Writes the values and the cares of some cubes, from the first place on. A place is an index: it is one in two arrays, as C lends them.
-#[tactic(auto, using(crate::proofs::Written::map_written))]
+#[tactic(auto, using(chart_arrays::proofs::Written::map_written))]
 fn write_rows(width: usize, cubes: &[u16], values: &mut [u8], cares: &mut [u8])
     requires { Spellable width cubes.now values.old cares.old }
     ensures values_are { values.new ≡ written 0 (map (value_of width) cubes.now) values.old }

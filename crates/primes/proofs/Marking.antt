@@ -29,7 +29,7 @@ freed_is k q =
 pub freed_put : (k q p : ℕ) → p + digit k q * 3 ^ k ≡ q + 2 * 3 ^ k → p ≡ freed k q
 freed_put k q p e = omega (arith, freed_is k q, put_weight k 2 q)
 
-freed_lt : (n k q : ℕ) → k < n → q < 3 ^ n → freed k q < 3 ^ n
+pub freed_lt : (n k q : ℕ) → k < n → q < 3 ^ n → freed k q < 3 ^ n
 freed_lt n k q l h = subst⁻¹ (λ (i : ℕ). i < 3 ^ n) (freed_is k q) (put_lt n k 2 q l (lit< tt) h)
 
 module _ (n : ℕ) (t : List ℕ) (kinds : List Kind) (m : Kinds n t kinds (3 ^ n)) where
@@ -63,7 +63,13 @@ module _ (n : ℕ) (t : List ℕ) (kinds : List Kind) (m : Kinds n t kinds (3 ^ 
 
 -- ---- the marked cubes
 
--- the marked cubes are those that pass, where the marks are those of a test
-pub marked_listed : (n : ℕ) (f : ℕ → Bool) (marks : List Bool) (old : List ℕ) → Marks f marks (3 ^ n) → {x : ℕ} {new : List ℕ}
-    → Puts (those (3 ^ n) (is_marked marks)) old 0 new x → Puts (those (3 ^ n) f) old 0 new x
-marked_listed n f marks old k p = puts_same (those_same (3 ^ n) (is_marked marks) f k) p
+-- a marked cube passes, where the marks are those of a test
+pub marked_is : {A : Type 0} (is_mark : A → Bool) (mark : Bool → A) → ((b : Bool) → is_mark (mark b) ≡ b) → (f : ℕ → Bool) (marks : List A) (m q : ℕ)
+    → Marks mark f marks m → q < m → is_marked is_mark (mark false) marks q ≡ f q
+marked_is is_mark mark tells f marks m q k l = ap is_mark (k q l) ∙ tells (f q)
+
+-- so the marked cubes are those that pass, here where a mark is the test itself
+pub marked_listed : (n : ℕ) (f : ℕ → Bool) (marks : List Bool) (old : List ℕ) → Marks (λ b. b) f marks (3 ^ n) → {x : ℕ} {new : List ℕ}
+    → Puts (those (3 ^ n) (is_marked (λ b. b) false marks)) old 0 new x → Puts (those (3 ^ n) f) old 0 new x
+marked_listed n f marks old k p =
+    puts_same (those_same (3 ^ n) (is_marked (λ b. b) false marks) f (λ q l. marked_is (λ b. b) (λ b. b) (λ b. refl) f marks (3 ^ n) q k l)) p

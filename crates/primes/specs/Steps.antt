@@ -27,22 +27,22 @@ pub record KindsOf (n : ℕ) (t : List ℕ) (kinds : List Kind) (m : ℕ) : Type
 abbrev pub Joins : Kind → Kind → Kind → Type 0
 Joins low high r = (i s j u : Bool) → low ≡ kind i s → high ≡ kind j u → r ≡ kind (i && j) (s || u)
 
--- the numbers below m that pass are marked, and no other one
-abbrev pub Marks : (ℕ → Bool) → List Bool → ℕ → Type 0
-Marks f marks m = (q : ℕ) → q < m → get_or marks q false ≡ f q
+-- the numbers below m that pass are marked, and no other one: each has the mark that is put for the answer of the test
+abbrev pub Marks : {A : Type 0} → (Bool → A) → (ℕ → Bool) → List A → ℕ → Type 0
+Marks mark f marks m = (q : ℕ) → q < m → get_or marks q (mark false) ≡ mark (f q)
 
 -- the marks from m on are as they were
-abbrev pub KeptFrom : ℕ → List Bool → List Bool → Type 0
-KeptFrom m old new = (q : ℕ) → m ≤ q → get_or new q false ≡ get_or old q false
+abbrev pub KeptFrom : {A : Type 0} → A → ℕ → List A → List A → Type 0
+KeptFrom none m old new = (q : ℕ) → m ≤ q → get_or new q none ≡ get_or old q none
 
 -- the marks of the numbers below m are those of a test, and all others are as they were
-pub record MarksBelow (m : ℕ) (f : ℕ → Bool) (old new : List Bool) : Type 0 where
-  pub marks : Marks f new m
-  pub kept : KeptFrom m old new
+pub record MarksBelow {A : Type 0} (mark : Bool → A) (m : ℕ) (f : ℕ → Bool) (old new : List A) : Type 0 where
+  pub marks : Marks mark f new m
+  pub kept : KeptFrom (mark false) m old new
 
--- q is marked
-abbrev pub is_marked : List Bool → ℕ → Bool
-is_marked marks q = get_or marks q false
+-- q is marked, where `none` stands past the last mark
+abbrev pub is_marked : {A : Type 0} → (A → Bool) → A → List A → ℕ → Bool
+is_marked is_mark none marks q = is_mark (get_or marks q none)
 
 -- the number of cube q with digit k made 2
 abbrev pub freed : ℕ → ℕ → ℕ

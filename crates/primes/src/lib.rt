@@ -6,8 +6,8 @@
 //     primes::primes(2, &[1, 0, 0, 2], &mut places)   // Ok(1): cube 0 (00); 11 matches no wanted code
 #![tactic(auto, using(cube::proofs::Calls::refusals, cube::proofs::Calls::cubes_most))]
 
-ghost use Rattle.std.specs.Prelude.{◌≡◌, not, ◌<◌, ◌≤◌, ◌^◌, eqb, length};
-ghost use Rattle.numbers.specs.Below.{those};
+ghost use Rattle.std.specs.Prelude.{◌≡◌, false, not, ◌<◌, ◌≤◌, ◌^◌, [], eqb, length, refl};
+ghost use Rattle.numbers.specs.Below.{flag, those};
 ghost use Rattle.numbers.specs.Lent.{Puts};
 ghost use Rattle.cube.specs.Words.{serving_prime, serving_primes_of};
 ghost use Rattle.cube.specs.Calls.{widest, Listed};
@@ -19,6 +19,63 @@ use cells::Split;
 use cube::Refusal;
 use spelling::{Cube, MOST_CUBES};
 use tables::Table;
+
+// A mark of a number: the test itself, or a byte as C has them.
+pub trait Mark: Copy {
+    ghost use Rattle.std.specs.Prelude.{Bool, ◌≡◌};
+
+    // Which values mark, and the value that is put for the answer of a test.
+    ghost is_mark: { Self → Bool };
+
+    ghost mark_of: { Bool → Self };
+
+    fn is_mark(self) -> bool
+        ensures { result ≡ is_mark self };
+
+    fn of(answer: bool) -> Self
+        ensures { result ≡ mark_of answer };
+
+    ghost tells: { (answer : Bool) → is_mark (mark_of answer) ≡ answer };
+}
+
+impl Mark for bool {
+    ghost is_mark = { λ mark. mark };
+
+    ghost mark_of = { λ answer. answer };
+
+    #[inline]
+    fn is_mark(self) -> bool {
+        self
+    }
+
+    #[inline]
+    fn of(answer: bool) -> bool {
+        answer
+    }
+
+    ghost tells = { λ answer. refl };
+}
+
+// Every byte but 0 marks; 1 is put for a mark.
+impl Mark for u8 {
+    ghost use Rattle.std.specs.Prelude.{true};
+
+    ghost is_mark = { λ mark. not (eqb mark 0) };
+
+    ghost mark_of = { flag };
+
+    #[inline]
+    fn is_mark(self) -> bool {
+        self != 0
+    }
+
+    #[inline]
+    fn of(answer: bool) -> u8 {
+        u8::from(answer)
+    }
+
+    ghost tells = { elim [ true ↦ refl | false ↦ refl ] };
+}
 
 // What is noted of a cube: of two kinds of implicants the greater one tells whether one of them serves.
 #[derive(Clone, Copy, Default, PartialEq, Eq, PartialOrd, Ord)]
@@ -67,17 +124,17 @@ fn cube_kind(table: Table, kinds: &[Kind], q: usize) -> Kind
     }
 }
 
-// The kinds of the cubes of a table, each made from those before it. An `ArrayVec` is pushed to in a loop, here and in the crates above: its `extend` and
-// `collect` answer a `Result`, an error where an item finds the list full, which each function would have to rule out; `push` asks for room instead.
-fn cube_kinds(table: Table) -> ArrayVec<Kind, MOST_CUBES>
-    ensures { KindsOf table.entry.width table.entry.cells.now result.items (3 ^ table.entry.width) }
+// Notes the kinds of the cubes of a table, each made from those before it, in an empty list that is lent: a list that is given back would be copied. An
+// `ArrayVec` is pushed to in a loop, here and in the crates above: its `extend` and `collect` answer a `Result`, an error where an item finds the list full,
+// which each function would have to rule out; `push` asks for room instead.
+fn note_kinds(table: Table, kinds: &mut ArrayVec<Kind, MOST_CUBES>)
+    requires { kinds.old.items ≡ [] }
+    ensures { KindsOf table.entry.width table.entry.cells.now kinds.new.items (3 ^ table.entry.width) }
 {
-    let mut kinds = ArrayVec::new();
     for q in 0..table.cubes() {
         let kind = cube_kind(table, kinds.as_slice(), q);
         kinds.push(kind);
     }
-    kinds
 }
 
 // The kinds of the cubes of `width` digits.
@@ -109,24 +166,25 @@ impl CubeKinds<'_> {
     }
 
     // Marks the primes that serve.
-    fn mark_maximal(self, marks: &mut [bool])
+    fn mark_maximal<T: Mark>(self, marks: &mut [T])
         requires { 3 ^ self.width ≤ length marks.old }
-        ensures { MarksBelow (3 ^ self.entry.width) (serving_prime_by self.entry.width self.entry.kinds.now) marks.old marks.new }
+        ensures { MarksBelow T.mark_of (3 ^ self.entry.width) (serving_prime_by self.entry.width self.entry.kinds.now) marks.old marks.new }
     {
         let width = self.width;
         for (q, mark) in marks[..spelling::cubes(width)].iter_mut().enumerate() {
-            *mark = self.is_serving_prime(Cube { width, number: q });
+            *mark = T::of(self.is_serving_prime(Cube { width, number: q }));
         }
     }
 }
 
 // Marks the primes of a table that serve, and no other cube. Marks past those of the cubes are left alone.
-pub fn mark_serving_primes(table: Table, marks: &mut [bool])
+pub fn mark_serving_primes<T: Mark>(table: Table, marks: &mut [T])
     requires { 3 ^ table.width ≤ length marks.old }
-    ensures { MarksBelow (3 ^ table.entry.width) (serving_prime table.entry.width table.entry.cells.now)
+    ensures { MarksBelow T.mark_of (3 ^ table.entry.width) (serving_prime table.entry.width table.entry.cells.now)
         marks.old marks.new }
 {
-    let kinds = cube_kinds(table);
+    let mut kinds = ArrayVec::new();
+    note_kinds(table, &mut kinds);
     let kinds = CubeKinds {
         width: table.width,
         kinds: kinds.as_slice(),
@@ -135,13 +193,13 @@ pub fn mark_serving_primes(table: Table, marks: &mut [bool])
 }
 
 // Lists the marked numbers, ascending, and returns how many there are. They are counted beside the places, which are the caller's, as C lends them.
-fn list_all_marked(marks: &[bool], out: &mut [u16]) -> usize
+fn list_all_marked<T: Mark>(marks: &[T], out: &mut [u16]) -> usize
     requires { (length marks.now ≤ 3 ^ widest) × (length marks.now ≤ length out.old) }
-    ensures { Puts (those (length marks.now) (is_marked marks.now)) out.old 0 out.new result }
+    ensures { Puts (those (length marks.now) (is_marked T.is_mark (T.mark_of false) marks.now)) out.old 0 out.new result }
 {
     let mut count = 0;
-    for (q, &marked) in marks.iter().enumerate() {
-        if marked {
+    for (q, mark) in marks.iter().enumerate() {
+        if mark.is_mark() {
             out[count] = q as u16;
             count += 1;
         }
@@ -150,9 +208,9 @@ fn list_all_marked(marks: &[bool], out: &mut [u16]) -> usize
 }
 
 // Lists the marked cubes of n digits, ascending, and returns how many there are.
-pub fn list_marked(n: usize, marks: &[bool], out: &mut [u16]) -> usize
+pub fn list_marked<T: Mark>(n: usize, marks: &[T], out: &mut [u16]) -> usize
     requires { (n ≤ widest) × (3 ^ n ≤ length marks.now) × (3 ^ n ≤ length out.old) }
-    ensures { Puts (those (3 ^ n) (is_marked marks.now)) out.old 0 out.new result }
+    ensures { Puts (those (3 ^ n) (is_marked T.is_mark (T.mark_of false) marks.now)) out.old 0 out.new result }
 {
     list_all_marked(&marks[..spelling::cubes(n)], out)
 }

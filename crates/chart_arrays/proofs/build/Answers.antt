@@ -1,29 +1,10 @@
 -- `chart_arrays::build` meets its contract: the primes that serve are listed, and each of them is a cube. Assumes nothing.
-use Rattle.std.proofs.Common.{◌≡◌, ℕ, ◌^◌, ◌<◌, ◌≤◌, List, length, take, get_or, map, refl, sym, ap, ◌∙◌, take_all, arith}
+use Rattle.std.proofs.Common.{map, refl, sym, ap, ◌∙◌, take_all}
 use Rattle.std.proofs.Math.Seq.{length-take-le}
-use Rattle.numbers.specs.Lent.{Puts}
-use Rattle.numbers.proofs.Below.{those_at}
-use Rattle.numbers.proofs.Lent.{front_inside, front_lent}
-use Rattle.cube.specs.Words.{serving_prime, serving_primes_of}
-use Rattle.cube.specs.Calls.{widest}
-use Rattle.cube.proofs.Calls.{cubes_most, primes_most}
+use Rattle.cube.proofs.Calls.{cubes_most}
 use Rattle.chart_arrays.specs.Rows.{chart_row}
+use Rattle.chart_arrays.proofs.Rows.{listed, inside, is_cube}
 use Rattle.chart_arrays.proofs.build.Goals as goal
-
--- the listed cubes, in places for all cubes of the widest width
-module _ (n : ℕ) (t old new : List ℕ) (count : ℕ) (w : n ≤ widest) (long : length old ≡ 3 ^ widest) (put : Puts (serving_primes_of n t) old 0 new count) where
-  few : length (serving_primes_of n t) ≤ length old
-  few = omega (arith, primes_most n t, cubes_most n w)
-
-  listed : take count new ≡ serving_primes_of n t
-  listed = front_lent put few
-
-  inside : count ≤ length new
-  inside = front_inside put few
-
-  is_cube : (i : ℕ) → i < length (take count new) → get_or (take count new) i 0 < 3 ^ n
-  unfolding serving_primes_of
-  is_cube i l = rw listed (those_at (serving_prime n t) (3 ^ n) i (rw listed at l)).0
 
 pub list_serving_primes-count-requires : goal.list_serving_primes-count-requires
 list_serving_primes-count-requires c = cubes_most _ c.args.table.narrow

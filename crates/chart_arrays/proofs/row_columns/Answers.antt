@@ -2,7 +2,6 @@
 use Rattle.std.proofs.Common.{refl, arith}
 use Rattle.numbers.specs.Below.{word_of}
 use Rattle.numbers.proofs.Bits.{word_lt}
-use Rattle.cube.proofs.Calls.{codes_most}
 use Rattle.chart_arrays.proofs.row_columns.Goals as goal
 
 pub loop-code-init : goal.loop-code-init
@@ -10,4 +9,4 @@ unfolding word_of
 loop-code-init c = refl
 
 pub with_next-word-requires : goal.with_next-word-requires
-with_next-word-requires c = (omega (arith, codes_most _ c.args.table.narrow), rw c.loop-code.invariant (word_lt c.loop-code.code _))
+with_next-word-requires c = (omega (arith, c.requires), rw c.loop-code.invariant (word_lt c.loop-code.code _))

@@ -5,4 +5,4 @@ use Rattle.chart_arrays.specs.Steps.{row_column}
 use Rattle.chart_arrays.proofs.row_columns.Given as goal
 
 abbrev pub invariant-loop-code : goal.invariant-loop-code
-invariant-loop-code l = l.word ≡ word_of l.code (row_column l.table.cells.now l.row)
+invariant-loop-code l = l.word ≡ word_of l.code (row_column l.table (record { value = l.value; care = l.care }))

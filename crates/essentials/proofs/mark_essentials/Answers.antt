@@ -14,13 +14,13 @@ pub mark_holders-requires : goal.mark_holders-requires
 mark_holders-requires c =
     let n = c.args.table.width in
     let t = c.args.table.cells.now in
-    omega (arith, c.requires, c.mark_serving_primes.auto.marks, words_long n t _ (c.as_slice-2.ensures.value ∙ c.prime_words-words.ensures))
+    omega (arith, c.requires, c.mark_serving_primes.auto.marks, words_long n t _ (c.as_slice-2.ensures.value ∙ c.prime_words.ensures))
 
 pub returns : goal.returns
 returns c q l =
     let n = c.args.table.width in
     let t = c.args.table.cells.now in
-    let words : c.as_slice-2.result.now ≡ tabulate (3 ^ n) 0 (prime_word n t) = c.as_slice-2.ensures.value ∙ c.prime_words-words.ensures in
+    let words : c.as_slice-2.result.now ≡ tabulate (3 ^ n) 0 (prime_word n t) = c.as_slice-2.ensures.value ∙ c.prime_words.ensures in
     let same : c.as_slice.result.now ≡ c.as_slice-2.result.now = c.as_slice.ensures.value ∙ sym c.as_slice-2.ensures.value in
     let sole : SoleColumns c.as_slice-2.result.now (3 ^ n) c.sole_columns-sole.result =
     subst₂ (λ (ws : List ℕ) (m : ℕ). SoleColumns ws m c.sole_columns-sole.result) same (ap length same ∙ words_long n t _ words) c.sole_columns-sole.ensures in

@@ -9,7 +9,7 @@ use Rattle.essentials.proofs.prime_words.Goals as goal
 
 pub loop-q-init : goal.loop-q-init
 unfolding tabulate
-loop-q-init c = c.new-words.ensures
+loop-q-init c = c.requires.none
 
 pub push-requires : goal.push-requires
 push-requires c =
