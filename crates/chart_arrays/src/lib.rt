@@ -4,7 +4,7 @@
 //     chart_arrays::cube_columns(table, 2)        // cube 02 matches 0 and 1, of which 0 is wanted: the word 1
 #![tactic(auto)]
 
-ghost use Rattle.std.specs.Prelude.{◌≡◌, ◌==◌, ◌&&◌, ◌<◌, ◌≤◌, ◌^◌, length};
+ghost use Rattle.std.specs.Prelude.{◌≡◌, [], ◌==◌, ◌&&◌, ◌<◌, ◌≤◌, ◌^◌, length};
 ghost use Rattle.numbers.specs.Below.{word_of};
 ghost use Rattle.cube.specs.Words.{on_set, row_matches};
 ghost use Rattle.matrix.specs.Sets.{column_limit};
@@ -82,15 +82,24 @@ pub fn row(table: Table, q: u16) -> ChartRow
     }
 }
 
-// The chart of a table: its rows, in the order of the primes. These are listed in lent places first, as Primes lists them for C.
-pub fn build(table: Table) -> ArrayVec<ChartRow, MOST_CUBES>
-    ensures { result.items ≡ chart_of table.entry.width table.entry.cells.now }
+// Lists the rows of the chart of a table in an empty list that is lent, in the order of the primes: a list that is given back would be copied. The primes are
+// listed in lent places first, as Primes lists them for C.
+pub fn list_rows(table: Table, rows: &mut ArrayVec<ChartRow, MOST_CUBES>)
+    requires { rows.old.items ≡ [] }
+    ensures { rows.new.items ≡ chart_of table.entry.width table.entry.cells.now }
 {
     let mut cubes = [0u16; MOST_CUBES];
     let count = primes::list_serving_primes(table, &mut cubes);
-    let mut rows = ArrayVec::new();
     for q in &cubes[..count] {
         rows.push(row(table, *q));
     }
+}
+
+// The chart of a table: its rows, in the order of the primes.
+pub fn build(table: Table) -> ArrayVec<ChartRow, MOST_CUBES>
+    ensures { result.items ≡ chart_of table.entry.width table.entry.cells.now }
+{
+    let mut rows = ArrayVec::new();
+    list_rows(table, &mut rows);
     rows
 }

@@ -76,7 +76,8 @@ fn picked_cubes(picked: &rows::Set, rows: &[ChartRow]) -> ArrayVec<u16, MOST_COD
 fn shortest(table: Table) -> CubeList
     ensures { Chosen table.entry.width table.entry.cells.now result.cubes.items result.bits }
 {
-    let chart = chart_arrays::build(table);
+    let mut chart = ArrayVec::new();
+    chart_arrays::list_rows(table, &mut chart);
     let rows = chart.as_slice();
     let found = lightest(rows, chart_arrays::wanted(table));
     let cubes = picked_cubes(&found.rows, rows);

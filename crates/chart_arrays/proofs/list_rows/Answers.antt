@@ -1,10 +1,10 @@
--- `chart_arrays::build` meets its contract: the primes that serve are listed, and each of them is a cube. Assumes nothing.
+-- `chart_arrays::list_rows` meets its contract: the primes that serve are listed, and each of them is a cube. Assumes nothing.
 use Rattle.std.proofs.Common.{map, refl, sym, ap, ◌∙◌, take_all}
 use Rattle.std.proofs.Math.Seq.{length-take-le}
 use Rattle.cube.proofs.Calls.{cubes_most}
 use Rattle.chart_arrays.specs.Rows.{chart_row}
 use Rattle.chart_arrays.proofs.Rows.{listed, inside, is_cube}
-use Rattle.chart_arrays.proofs.build.Goals as goal
+use Rattle.chart_arrays.proofs.list_rows.Goals as goal
 
 pub list_serving_primes-count-requires : goal.list_serving_primes-count-requires
 list_serving_primes-count-requires c = cubes_most _ c.args.table.narrow
