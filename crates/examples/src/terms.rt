@@ -7,6 +7,20 @@ use spelling::{MOST_CODE_PAIRS, MOST_CUBES};
 use std::fmt;
 use text::input::{Reader, Text};
 
+// A digit of a cube.
+#[derive(Clone, Copy)]
+struct Digit(usize);
+
+impl fmt::Display for Digit {
+    fn fmt<W: fmt::Write>(&self, f: &mut fmt::Formatter<W>) -> fmt::Result {
+        f.write_char(match self.0 {
+            0 => '0',
+            1 => '1',
+            _ => '-',
+        })
+    }
+}
+
 // A cube of this many digits. It is no `spelling::Cube`: that what a call has listed is below 3^width is not known here without a proof of its own.
 #[derive(Clone, Copy)]
 struct Term {
@@ -15,16 +29,12 @@ struct Term {
     ghost narrow: { width ≤ widest },
 }
 
-impl fmt::Display for Term {
-    fn fmt<W: fmt::Write>(&self, f: &mut fmt::Formatter<W>) -> fmt::Result {
-        for k in (0..self.width).rev() {
-            f.write_char(match spelling::digit(self.cube, k) {
-                0 => '0',
-                1 => '1',
-                _ => '-',
-            })?;
-        }
-        Ok(())
+// A term.
+fn report_term(rt: &impl Print, term: Term) {
+    let _ = print!(rt; " ");
+    for k in (0..term.width).rev() {
+        let digit = Digit(spelling::digit(term.cube, k));
+        let _ = print!(rt; "{digit}");
     }
 }
 
@@ -55,8 +65,7 @@ fn report(
                     width,
                     cube: usize::from(*cube),
                 };
-                let _ = print!(rt; " ");
-                let _ = print!(rt; "{term}");
+                report_term(rt, term);
             }
             let _ = println!(rt);
         }
