@@ -46,8 +46,9 @@ fn cell_of(byte: u8) -> Option<u8>
     ensures { MatchOption result (is_cell byte ≡ false) (λ c. (is_cell byte ≡ true) × (c ≡ cell_of byte)) }
 {
     match byte {
+        b'0' => Some(0),
+        b'1' => Some(1),
         b'-' => Some(2),
-        b'0'..=b'1' => Some(byte - b'0'),
         _ => None,
     }
 }
