@@ -2,7 +2,7 @@
 use Rattle.std.proofs.Common.{ℕ, ◌≤◌, ◌≡◌, List, [], ◌∷◌, ◌++◌, Result, Ok, Err, take, arith, sym, ap, subst, ◌∙◌}
 use Rattle.text.specs.Steps.{most_cells, State, at_start, wrong, fed, cells_kept}
 use Rattle.text.proofs.Stepping.{fed_append}
-use Rattle.text.proofs.Keeping.{kept_few}
+use Rattle.text.proofs.Keeping.{fed_few}
 use Rattle.streams.specs.Steps.{after_read, ReadAll}
 
 -- the state after an input
@@ -10,7 +10,7 @@ after : {state : State} (input : List ℕ) → state ≡ fed at_start input → 
 after input e = record {
   input = input;
   is_state = e;
-  few = subst (λ (s : State). cells_kept s ≤ most_cells) (sym e) (kept_few at_start input (omega arith));
+  few = subst (λ (s : State). cells_kept s ≤ most_cells) (sym e) (fed_few at_start input (omega arith));
 }
 
 pub read_none : {state : State} → state ≡ at_start → ReadAll state

@@ -42,11 +42,9 @@ module _ (cells : List ℕ) (x : ℕ) where
   pub none_kept : length cells ≡ most_cells → cells ≡ keep (cells ++ x ∷ [])
   none_kept e = sym (take-append-le most_cells cells (x ∷ []) (omega arith) ∙ take_all most_cells cells (omega arith))
 
--- no more cells are kept than may be, however many bytes follow
-pub kept_few : (s : State) (bs : List ℕ) → cells_kept s ≤ most_cells → cells_kept (fed s bs) ≤ most_cells
-unfolding fed
-kept_few s [] l = l
-kept_few s (b ∷ bs) l = kept_few (stepped s b) bs (one s l)
+-- no more cells are kept than may be, behind one more byte
+pub stepped_few : (s : State) (b : ℕ) → cells_kept s ≤ most_cells → cells_kept (stepped s b) ≤ most_cells
+stepped_few s b l = go s l
   where
     digit : (t : Bool) → cells_kept (cond t (after_digit (width_of b)) wrong) ≤ most_cells
     digit true = omega arith
@@ -62,12 +60,18 @@ kept_few s (b ∷ bs) l = kept_few (stepped s b) bs (one s l)
     cell n cells false true l = omega (arith, length-take most_cells (cells ++ (cell_of b ∷ [])))
     cell n cells false false l = omega arith
 
-    one : (s : State) → cells_kept s ≤ most_cells → cells_kept (stepped s b) ≤ most_cells
-    one at_start l = digit (is_digit b)
-    one (after_digit n) l = run n (eqb b line_feed)
-    one (in_run n cells) l = cell n cells (eqb b line_feed) (is_cell b) l
-    one (at_end n cells) l = omega arith
-    one wrong l = l
+    go : (s : State) → cells_kept s ≤ most_cells → cells_kept (stepped s b) ≤ most_cells
+    go at_start l = digit (is_digit b)
+    go (after_digit n) l = run n (eqb b line_feed)
+    go (in_run n cells) l = cell n cells (eqb b line_feed) (is_cell b) l
+    go (at_end n cells) l = omega arith
+    go wrong l = l
+
+-- and behind a piece
+pub fed_few : (s : State) (bs : List ℕ) → cells_kept s ≤ most_cells → cells_kept (fed s bs) ≤ most_cells
+unfolding fed
+fed_few s [] l = l
+fed_few s (b ∷ bs) l = fed_few (stepped s b) bs (stepped_few s b l)
 
 -- a call whose further conditions are the rest refuses the cells that are kept exactly as it refuses the whole run; where the table is not refused,
 -- they are the whole run

@@ -120,7 +120,7 @@ impl Model for Reader {
 impl Reader {
     ghost use Rattle.std.specs.Prelude.{◌≡◌, ◌≤◌, IfOk, MatchResult, length};
     ghost use Rattle.cube.specs.Calls.{refusal_number, refuses, gives};
-    ghost use Rattle.text.specs.Steps.{State, at_start, wrong, stepped, fed, closed, most_cells};
+    ghost use Rattle.text.specs.Steps.{State, at_start, wrong, stepped, fed, closed, cells_kept, most_cells};
     ghost use Rattle.text.specs.Readers.{state_of};
 
     // Nothing has been read yet.
@@ -154,8 +154,10 @@ impl Reader {
     }
 
     // The next byte.
+    #[tactic(auto, using(crate::proofs::Keeping::stepped_few))]
     pub fn step(&mut self, byte: u8)
-        ensures { self.new ≡ stepped self.old byte }
+        ensures state { self.new ≡ stepped self.old byte }
+        ensures few { cells_kept self.old ≤ most_cells → cells_kept self.new ≤ most_cells }
     {
         if let Some(next) = self.next {
             self.next = next.behind(byte, &mut self.cells);
@@ -163,9 +165,10 @@ impl Reader {
     }
 
     // The bytes of a piece, one after the other.
-    #[tactic(auto, using(crate::proofs::Stepping::fed_append, numbers::proofs::Fronts::take_more), unfolding(crate::specs::Steps::fed))]
+    #[tactic(auto, using(crate::proofs::Stepping::fed_append, crate::proofs::Keeping::fed_few, numbers::proofs::Fronts::take_more), unfolding(crate::specs::Steps::fed))]
     pub fn feed(&mut self, piece: &[u8])
-        ensures { self.new ≡ fed self.old piece.now }
+        ensures state { self.new ≡ fed self.old piece.now }
+        ensures few { cells_kept self.old ≤ most_cells → cells_kept self.new ≤ most_cells }
     {
         for byte in piece {
             self.step(*byte);
