@@ -100,19 +100,19 @@ module _ (words weights : List ℕ) where
   -- ---- rows that no cover below the limit has
 
   module _ {u : ColumnSet} {limit : ℕ} where
-    kept_then : {live rest last : RowSet} → Kept words weights live u limit rest → Kept words weights rest u limit last → Kept words weights live u limit last
+    pub kept_then : {live rest last : RowSet} → Kept words weights live u limit rest → Kept words weights rest u limit last → Kept words weights live u limit last
     kept_then f g = record { fewer = λ i h. f.fewer i (g.fewer i h); low = λ k l b. f.low k l (g.low k l b) }
 
   -- ---- what a certificate shows
 
   module _ {u : ColumnSet} {limit total : ℕ} {live rest : RowSet} {prices : List ℕ} (h : Certificate words weights live u limit prices total) where
     -- it is one for fewer rows too
-    certificate_kept : Kept words weights live u limit rest → Certificate words weights rest u limit prices total
+    pub certificate_kept : Kept words weights live u limit rest → Certificate words weights rest u limit prices total
     unfolding PaidFor
     certificate_kept k = record { limited = h.limited; valued = h.valued; feasible = paid_less live rest (has u) (has u) prices k.fewer (λ c m. m) h.feasible }
 
     -- what a row leaves is worth the total less what the row pays for its undecided columns
-    kept_without : (i : ℕ) → limit + worth prices (row_columns words u i) ≤ weight_of weights i + total
+    pub kept_without : (i : ℕ) → limit + worth prices (row_columns words u i) ≤ weight_of weights i + total
         → ((j : ℕ) → member rest j ≡ (member live j && not (eqb j i))) → Kept words weights live u limit rest
     unfolding PaidFor
     kept_without i l e = record {

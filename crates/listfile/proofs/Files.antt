@@ -75,7 +75,7 @@ pub record AcceptedFile (format : Format) (file : List ℕ) : Type 0 where
   pub formed : bad_row (width_in file) (rows_in format file) ≡ false
 
 -- a file that has the header's length
-bad_else : (bytes header needed : ℕ) → header ≤ bytes → not (eqb bytes needed) ≡ bad_file bytes header needed
+pub bad_else : (bytes header needed : ℕ) → header ≤ bytes → not (eqb bytes needed) ≡ bad_file bytes header needed
 bad_else bytes header needed l = sym (ap (λ (b : Bool). b || not (eqb bytes needed)) (le-ltb bytes header l))
 
 pub right_length : (format : Format) (file : List ℕ) → wrong_length format file ≡ false → Whole format file

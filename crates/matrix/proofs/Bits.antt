@@ -98,7 +98,7 @@ even_below e c =
 below_even : (d c : ℕ) → c < d → 2 ^ d / 2 ^ c % 2 ≡ 0
 below_even d c l = let e : d ≡ suc (d - c - 1) + c = omega arith in ap (λ (y : ℕ). 2 ^ y / 2 ^ c % 2) e ∙ even_below (d - c - 1) c
 
-has_one : (d c : ℕ) → has_bit (2 ^ d) c ≡ eqb c d
+pub has_one : (d c : ℕ) → has_bit (2 ^ d) c ≡ eqb c d
 unfolding has_bit
 has_one d c = go (dec_lt c d) (dec_lt d c)
   where
@@ -108,7 +108,7 @@ has_one d c = go (dec_lt c d) (dec_lt d c)
     go (no n) (no m) = let e : c ≡ d = omega arith in
         ap (λ (x : ℕ). eqb (2 ^ d / 2 ^ x % 2) 1) e ∙ ap (λ (x : ℕ). eqb (x % 2) 1) (div_self (pow_pos d)) ∙ sym (eq-eqb c d e)
 
-shifted_one : (d : ℕ) → d < word_bits → 1 * 2 ^ d % 2 ^ word_bits ≡ 2 ^ d
+pub shifted_one : (d : ℕ) → d < word_bits → 1 * 2 ^ d % 2 ^ word_bits ≡ 2 ^ d
 shifted_one d h = ap (λ (y : ℕ). y % 2 ^ word_bits) (one-mul (2 ^ d)) ∙ mod-eq_of_lt (pow-lt h)
 
 pub has_only : (d : ℕ) → d < word_bits → (c : ℕ) → has_bit (1 * 2 ^ d % 2 ^ word_bits) c ≡ eqb c d
@@ -215,7 +215,7 @@ before_lowest zero x c l = absurd (omega arith)
 before_lowest (suc d) x c l = before_step (count_trailing_zeros d (x / 2)) x (x % 2) refl (λ c k. before_lowest d (x / 2) c k) c l
 
 -- a word that is not within another has a column that the other lacks
-first_lacking : (d a b : ℕ) → a < 2 ^ d → (bit_and a b ≡ a → ⊥) → (c : ℕ) × In a c × (In b c → ⊥)
+pub first_lacking : (d a b : ℕ) → a < 2 ^ d → (bit_and a b ≡ a → ⊥) → (c : ℕ) × In a c × (In b c → ⊥)
 first_lacking d a b l n =
     let m = and_le_l a b in
     let x = xor_lt d a (bit_and a b) l (lt_of_le_of_lt m l) in
@@ -229,7 +229,7 @@ first_lacking d a b l n =
 from_shifted : (x f i : ℕ) → f ≤ i → has_bit (x / 2 ^ f) (i - f) ≡ has_bit x i
 from_shifted x f i l = let e : f + (i - f) ≡ i = omega arith in has_shr x f (i - f) ∙ ap (has_bit x) e
 
-next_none : (x f : ℕ) → f ≤ word_bits → x / 2 ^ f ≡ 0 → Next (has_bit x) f word_bits word_bits
+pub next_none : (x f : ℕ) → f ≤ word_bits → x / 2 ^ f ≡ 0 → Next (has_bit x) f word_bits word_bits
 next_none x f l e = record {
   above = l;
   within = omega arith;
@@ -245,7 +245,7 @@ module _ (x f : ℕ) (l : x < 2 ^ word_bits) (n : x / 2 ^ f ≡ 0 → ⊥) where
   next_below : f + count_trailing_zeros word_bits (x / 2 ^ f) < word_bits
   next_below = in_below x (f + count_trailing_zeros word_bits (x / 2 ^ f)) word_bits l next_bit
 
-  next_some : (f + count_trailing_zeros word_bits (x / 2 ^ f) < word_bits) × Next (has_bit x) f word_bits (f + count_trailing_zeros word_bits (x / 2 ^ f))
+  pub next_some : (f + count_trailing_zeros word_bits (x / 2 ^ f) < word_bits) × Next (has_bit x) f word_bits (f + count_trailing_zeros word_bits (x / 2 ^ f))
   next_some = (
     next_below,
     record {

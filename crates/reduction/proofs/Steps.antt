@@ -21,13 +21,13 @@ module _ (words weights : List ℕ) where
   -- ---- a row dropped
 
   module _ (live rest : RowSet) (u : ColumnSet) (i : ℕ) (e : (j : ℕ) → member rest j ≡ (member live j && not (eqb j i))) where
-    drop_dominated : (j : ℕ) → Dominates words weights live u i j → Keeps words weights live u rest u
+    pub drop_dominated : (j : ℕ) → Dominates words weights live u i j → Keeps words weights live u rest u
     drop_dominated j d =
         drop_row (CoversColumn words) (weight_of weights) row_limit i (j ∷ []) (left_in live rest i e) (left_rest live rest i e)
         (left_rest live rest i e j d.lives d.other, tt) (omega (arith, d.light)) (λ c v k. inl (d.inside c v k))
 
     -- a row with no undecided column
-    drop_useless : ((c : ℕ) → In u c → CoversColumn words i c → ⊥) → Keeps words weights live u rest u
+    pub drop_useless : ((c : ℕ) → In u c → CoversColumn words i c → ⊥) → Keeps words weights live u rest u
     drop_useless n = drop_row (CoversColumn words) (weight_of weights) row_limit i [] (left_in live rest i e) (left_rest live rest i e) tt (omega arith) (λ c v k. absurd (n c v k))
 
     pub drop_droppable : Droppable words weights live u i → Keeps words weights live u rest u

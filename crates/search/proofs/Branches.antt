@@ -24,7 +24,7 @@ module _ (words weights : List ℕ) where
 
   module _ (live : RowSet) (u : ColumnSet) (limit bound : ℕ) (rest : RowSet) (b : Bounds words weights live u limit bound rest) where
     -- no row that is left covers some column
-    uncovered : (c : ℕ) × In u c × ((i : ℕ) → Member rest i → CoversColumn words i c → ⊥) → Low words weights live u limit
+    pub uncovered : (c : ℕ) × In u c × ((i : ℕ) → Member rest i → CoversColumn words i c → ⊥) → Low words weights live u limit
     uncovered t = b.kept.low limit (omega arith) (uncoverable (CoversColumn words) t.0 limit t.1 t.2)
 
     pub branches : (row : Option ℕ) → Branch words rest u row → MatchOption row (Low words weights live u limit) (λ r. (r < row_count words) × Member rest r)
@@ -48,7 +48,7 @@ module _ (words weights : List ℕ) where
 
     module _ (l : s.cost < limit) where
       -- no cover of what is left is below the rest of the limit
-      found_none : Low words weights s.live s.undecided (limit - s.cost) → Low words weights live u limit
+      pub found_none : Low words weights s.live s.undecided (limit - s.cost) → Low words weights live u limit
       found_none b = smaller (CoversColumn words) (omega arith) (h.low (limit - s.cost) b)
 
       -- a row was chosen
