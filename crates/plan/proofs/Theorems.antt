@@ -46,7 +46,7 @@ module _ {n : ℕ} {t values cares values' cares' : List ℕ} where
     pub cares_stand : take totals.rows cares' ≡ cares_of p.list
     cares_stand = front_is (cares_of p.list) cares (counts (λ r. r.care)) cares_are
 
-    list_is : first_rows totals.rows values' cares' ≡ p.list
+    pub list_is : first_rows totals.rows values' cares' ≡ p.list
     list_is = ap₂ rows_of values_stand cares_stand ∙ rows_back p.list
 
     pub held : Held n t values cares values' cares' totals
