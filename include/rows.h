@@ -32,8 +32,8 @@
  * so threads may call at the same time, each with its own arrays.
  *
  * A call needs stack: allow rows_plan, rows_keep_out and rows_better 1 MB. The most that was measured on
- * x86-64, from the caller's frame down, is 103 KB for these three, 56 KB for rows_chart, 9 KB for
- * rows_essentials, 240 bytes for rows_essentials_by_neighbours and 4 KB for the other calls. No bound is
+ * x86-64, from the caller's frame down, is 103 KB for these three, 8 KB for rows_essentials, 4 KB for
+ * rows_chart, 240 bytes for rows_essentials_by_neighbours and 2 KB for the other calls. No bound is
  * proved.
  *
  * Answers
