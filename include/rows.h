@@ -32,7 +32,7 @@
  * so threads may call at the same time, each with its own arrays.
  *
  * A call needs stack: allow rows_plan, rows_keep_out and rows_better 1 MB. The most that was measured on
- * x86-64, from the caller's frame down, is 103 KB for these three, 8 KB for rows_essentials, 4 KB for
+ * x86-64, from the caller's frame down, is 85 KB for these three, 8 KB for rows_essentials, 4 KB for
  * rows_chart, 240 bytes for rows_essentials_by_neighbours and 2 KB for the other calls. No bound is
  * proved.
  *
